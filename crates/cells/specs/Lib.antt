@@ -1,0 +1,6 @@
+pub mod Le
+pub mod Cells
+pub mod CellsLaws
+pub mod Moves
+pub mod Parts
+pub mod Rows

@@ -1,0 +1,173 @@
+//! The commands: plays case files and random lists of calls, assembles and disassembles images.
+
+use std::{
+    fs,
+    io::{self, Read, Write},
+    process::ExitCode,
+    time::{Duration, Instant},
+};
+
+use player::{
+    assemble::{assemble, disassemble},
+    case,
+    damage::damage,
+    driver::Driver,
+    fuel_rows::{self, Question},
+    generate, image,
+    random::Random,
+    soak::Soak,
+    text,
+};
+
+const USAGE: &str = "usage: player cases FILES..
+       player play FILE
+       player random --from SEED --lists N [--seconds S]
+       player images --from SEED --lists N
+       player fuel questions|answers > FILE
+       player assemble < TEXT > IMAGE
+       player disassemble < IMAGE > TEXT";
+
+type Outcome = Result<(), String>;
+
+fn main() -> ExitCode {
+    let args: Vec<String> = std::env::args().skip(1).collect();
+    let args: Vec<&str> = args.iter().map(String::as_str).collect();
+    let outcome = match args.as_slice() {
+        ["cases", files @ ..] if !files.is_empty() => cases(files),
+        ["play", file] => play(file),
+        ["random", options @ ..] => Options::parse(options).and_then(|options| random(&options)),
+        ["images", options @ ..] => Options::parse(options).and_then(|options| images(&options)),
+        ["fuel", "questions"] => fuel(Question::bytes),
+        ["fuel", "answers"] => fuel(Question::answer),
+        ["assemble"] => assemble_stdin(),
+        ["disassemble"] => disassemble_stdin(),
+        _ => Err(USAGE.into()),
+    };
+    match outcome {
+        Ok(()) => ExitCode::SUCCESS,
+        Err(reason) => {
+            eprintln!("{reason}");
+            ExitCode::FAILURE
+        }
+    }
+}
+
+struct Options {
+    from: u64,
+    lists: u64,
+    seconds: Option<u64>,
+}
+
+impl Options {
+    fn parse(args: &[&str]) -> Result<Options, String> {
+        let mut options = Options { from: 0, lists: 1_000, seconds: None };
+        for pair in args.chunks(2) {
+            let &[name, number] = pair else { return Err(USAGE.into()) };
+            let number = number.parse().map_err(|_| format!("`{number}` is no number"))?;
+            match name {
+                "--from" => options.from = number,
+                "--lists" => options.lists = number,
+                "--seconds" => options.seconds = Some(number),
+                _ => return Err(USAGE.into()),
+            }
+        }
+        Ok(options)
+    }
+
+    /// The seeds, up to the last second.
+    fn seeds(&self) -> impl Iterator<Item = u64> {
+        let begin = Instant::now();
+        let limit = self.seconds.map(Duration::from_secs);
+        (self.from..self.from + self.lists).take_while(move |_| limit.is_none_or(|limit| begin.elapsed() < limit))
+    }
+}
+
+fn parse_file(file: &str) -> Result<Vec<case::Case>, String> {
+    let text = fs::read_to_string(file).map_err(|error| format!("{file}: {error}"))?;
+    case::parse(file, &text).map_err(|malformed| malformed.to_string())
+}
+
+/// Plays all cases of the files, with a line for each file.
+fn cases(files: &[&str]) -> Outcome {
+    let (mut passed, mut failed) = (0, 0);
+    for file in files {
+        let cases = parse_file(file)?;
+        let played = cases.iter().map(|case| case.play(&mut Driver::new(), &mut |_, _| ()));
+        let failures: Vec<case::Failure> = played.filter_map(Result::err).collect();
+        failures.iter().for_each(|failure| println!("{failure}"));
+        println!("{file}: {} passed, {} failed", cases.len() - failures.len(), failures.len());
+        passed += cases.len() - failures.len();
+        failed += failures.len();
+    }
+    println!("{passed} passed, {failed} failed");
+    if failed == 0 { Ok(()) } else { Err(String::from("some cases failed")) }
+}
+
+/// Plays a file's first case and shows each call with what it leaves.
+fn play(file: &str) -> Outcome {
+    let cases = parse_file(file)?;
+    let case = cases.first().ok_or_else(|| format!("{file} has no case"))?;
+    println!("case {}: {}", case.name, case.words);
+    let played = case.play(&mut Driver::new(), &mut |step, after| {
+        println!("\n{}", case::call_text(&step.call));
+        after.dump(&step.call).iter().for_each(|line| println!("    {line}"));
+    });
+    played.map_err(|failure| failure.to_string())
+}
+
+/// Plays random lists with all checks and shows how often everything occurred.
+fn random(options: &Options) -> Outcome {
+    let begin = Instant::now();
+    let mut soak = Soak::default();
+    for seed in options.seeds() {
+        if let Err(failure) = soak.list(seed, &|| Box::new(Driver::new())) {
+            let file = format!("seed-{seed}.case");
+            fs::write(&file, &failure.case).map_err(|error| format!("{file}: {error}"))?;
+            return Err(format!("{}\nkept as {file}", failure.report));
+        }
+    }
+    println!("{}", soak.tally());
+    println!("{:.1} seconds", begin.elapsed().as_secs_f64());
+    Ok(())
+}
+
+/// Counts the reader's answers to damaged images.
+fn images(options: &Options) -> Outcome {
+    let mut counts = [0_u64; 5];
+    for seed in options.seeds() {
+        let mut random = Random::new(seed);
+        let (own, _) = generate::image(&mut random);
+        let damaged = damage(&own, &mut random);
+        counts[image::parse(&damaged).err().unwrap_or(0) as usize] += 1;
+    }
+    println!("{} damaged images", counts.iter().sum::<u64>());
+    for (number, count) in counts.iter().enumerate() {
+        println!("{count:>10} {}", text::answer(number as u32));
+    }
+    Ok(())
+}
+
+/// Writes the rows of `fuel_replay`: its input, or what the Rust answers to it.
+fn fuel(bytes: fn(&Question) -> Vec<u8>) -> Outcome {
+    let rows: Vec<u8> = fuel_rows::questions(1, 2_048).iter().flat_map(bytes).collect();
+    io::stdout().write_all(&rows).map_err(|error| error.to_string())
+}
+
+fn stdin() -> Result<Vec<u8>, String> {
+    let mut bytes = Vec::new();
+    io::stdin().read_to_end(&mut bytes).map_err(|error| error.to_string())?;
+    Ok(bytes)
+}
+
+fn assemble_stdin() -> Outcome {
+    let text = String::from_utf8(stdin()?).map_err(|error| error.to_string())?;
+    let image = assemble(&text).map_err(|error| error.to_string())?;
+    io::stdout().write_all(&image).map_err(|error| error.to_string())
+}
+
+fn disassemble_stdin() -> Outcome {
+    let image = stdin()?;
+    image::parse(&image).map_err(|number| format!("the image is refused with {number}"))?;
+    print!("{}", disassemble(&image));
+    Ok(())
+}
