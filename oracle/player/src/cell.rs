@@ -66,11 +66,7 @@ impl Cell {
 
     pub fn from_bytes(bytes: &[u8]) -> Cell {
         let word = |at: usize| u32::from_le_bytes(bytes[at..at + 4].try_into().unwrap());
-        Cell {
-            tag: word(0),
-            number: word(4),
-            payload: u64::from_le_bytes(bytes[8..16].try_into().unwrap()),
-        }
+        Cell { tag: word(0), number: word(4), payload: u64::from_le_bytes(bytes[8..16].try_into().unwrap()) }
     }
 }
 

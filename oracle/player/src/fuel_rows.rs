@@ -5,22 +5,8 @@ use lucia::fuel::Fuel;
 use crate::random::Random;
 
 /// Numbers at the ends of i32, around 0, and those that the executor charges.
-const EDGES: [i32; 14] = [
-    i32::MIN,
-    i32::MIN + 1,
-    i32::MIN + 67,
-    -68,
-    -1,
-    0,
-    1,
-    4,
-    8,
-    67,
-    68,
-    i32::MAX - 67,
-    i32::MAX - 1,
-    i32::MAX,
-];
+const EDGES: [i32; 14] =
+    [i32::MIN, i32::MIN + 1, i32::MIN + 67, -68, -1, 0, 1, 4, 8, 67, 68, i32::MAX - 67, i32::MAX - 1, i32::MAX];
 const MARKS: [u8; 4] = [0, 0, 1, 7];
 const OPERATIONS: usize = 9;
 

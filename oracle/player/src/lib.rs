@@ -12,6 +12,8 @@ pub mod driver;
 pub mod fuel_rows;
 pub mod generate;
 pub mod image;
+pub mod image_rows;
+pub mod ints_rows;
 mod link;
 pub mod observe;
 pub mod opcode;

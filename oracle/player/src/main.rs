@@ -10,11 +10,8 @@ use std::{
 use player::{
     assemble::{assemble, disassemble},
     case,
-    damage::damage,
     driver::Driver,
-    fuel_rows::{self, Question},
-    generate, image,
-    random::Random,
+    fuel_rows, image, image_rows, ints_rows,
     soak::Soak,
     text,
 };
@@ -24,6 +21,8 @@ const USAGE: &str = "usage: player cases FILES..
        player random --from SEED --lists N [--seconds S]
        player images --from SEED --lists N
        player fuel questions|answers > FILE
+       player ints questions|answers > FILE
+       player images questions|answers > FILE
        player assemble < TEXT > IMAGE
        player disassemble < IMAGE > TEXT";
 
@@ -36,9 +35,13 @@ fn main() -> ExitCode {
         ["cases", files @ ..] if !files.is_empty() => cases(files),
         ["play", file] => play(file),
         ["random", options @ ..] => Options::parse(options).and_then(|options| random(&options)),
+        ["ints", "questions"] => write(ints_replayed(ints_rows::Question::bytes)),
+        ["ints", "answers"] => write(ints_replayed(ints_rows::Question::answer)),
+        ["images", "questions"] => write(images_replayed(image_rows::question)),
+        ["images", "answers"] => write(images_replayed(image_rows::answer)),
         ["images", options @ ..] => Options::parse(options).and_then(|options| images(&options)),
-        ["fuel", "questions"] => fuel(Question::bytes),
-        ["fuel", "answers"] => fuel(Question::answer),
+        ["fuel", "questions"] => write(fuel_replayed(fuel_rows::Question::bytes)),
+        ["fuel", "answers"] => write(fuel_replayed(fuel_rows::Question::answer)),
         ["assemble"] => assemble_stdin(),
         ["disassemble"] => disassemble_stdin(),
         _ => Err(USAGE.into()),
@@ -135,10 +138,8 @@ fn random(options: &Options) -> Outcome {
 fn images(options: &Options) -> Outcome {
     let mut counts = [0_u64; 5];
     for seed in options.seeds() {
-        let mut random = Random::new(seed);
-        let (own, _) = generate::image(&mut random);
-        let damaged = damage(&own, &mut random);
-        counts[image::parse(&damaged).err().unwrap_or(0) as usize] += 1;
+        let damaged = image_rows::damaged_image(seed);
+        counts[image_rows::refusal(&damaged) as usize] += 1;
     }
     println!("{} damaged images", counts.iter().sum::<u64>());
     for (number, count) in counts.iter().enumerate() {
@@ -147,10 +148,23 @@ fn images(options: &Options) -> Outcome {
     Ok(())
 }
 
-/// Writes the rows of `fuel_replay`: its input, or what the Rust answers to it.
-fn fuel(bytes: fn(&Question) -> Vec<u8>) -> Outcome {
-    let rows: Vec<u8> = fuel_rows::questions(1, 2_048).iter().flat_map(bytes).collect();
-    io::stdout().write_all(&rows).map_err(|error| error.to_string())
+/// What `fuel_replay` is asked, or what the Rust answers to it.
+fn fuel_replayed(bytes: fn(&fuel_rows::Question) -> Vec<u8>) -> Vec<u8> {
+    fuel_rows::questions(1, 2_048).iter().flat_map(bytes).collect()
+}
+
+/// What `ints_replay` is asked, or what the oracle's stand-in answers to it.
+fn ints_replayed(bytes: fn(&ints_rows::Question) -> Vec<u8>) -> Vec<u8> {
+    ints_rows::questions(1, 2_048).iter().flat_map(bytes).collect()
+}
+
+/// What `images_replay` is asked, or what the reader here answers to it.
+fn images_replayed(bytes: fn(&[u8]) -> Vec<u8>) -> Vec<u8> {
+    image_rows::images().iter().flat_map(|image| bytes(image)).collect()
+}
+
+fn write(bytes: Vec<u8>) -> Outcome {
+    io::stdout().write_all(&bytes).map_err(|error| error.to_string())
 }
 
 fn stdin() -> Result<Vec<u8>, String> {
@@ -162,7 +176,7 @@ fn stdin() -> Result<Vec<u8>, String> {
 fn assemble_stdin() -> Outcome {
     let text = String::from_utf8(stdin()?).map_err(|error| error.to_string())?;
     let image = assemble(&text).map_err(|error| error.to_string())?;
-    io::stdout().write_all(&image).map_err(|error| error.to_string())
+    write(image)
 }
 
 fn disassemble_stdin() -> Outcome {

@@ -2,12 +2,12 @@
 
 mod programs;
 
-use programs::{answer, random_program};
 use player::{
     assemble::{CodeTree, ConstantTree, assemble, assemble_tree, encode},
     disassemble::{disassemble, disassemble_tree},
     random::Random,
 };
+use programs::{answer, random_program};
 
 fn tree(text: &str) -> CodeTree {
     assemble_tree(text).unwrap_or_else(|error| panic!("{error}"))

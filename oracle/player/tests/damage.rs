@@ -2,13 +2,13 @@
 
 mod programs;
 
-use programs::{answer, random_program};
 use player::{
     damage::damage,
     image::{MAX_BYTES, MAX_CODES, parse, refusal},
     random::Random,
     tree::encode,
 };
+use programs::{answer, random_program};
 
 #[test]
 fn every_answer_occurs_often() {

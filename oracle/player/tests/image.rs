@@ -2,11 +2,11 @@
 
 mod programs;
 
-use programs::{JUMP, RETURN, answer, answer_of, nest, one_of_each, smallest, table_len, with_codes, with_constant};
 use player::{
     image::{Constant, MAX_BYTES, Part, kind, parse},
     tree::{CodeTree, ConstantTree, encode, record},
 };
+use programs::{JUMP, RETURN, answer, answer_of, nest, one_of_each, smallest, table_len, with_codes, with_constant};
 
 fn with_record(kind: u16, body: &[u8]) -> CodeTree {
     with_constant(ConstantTree::Record { kind, body: body.to_vec() })

@@ -1,0 +1,10 @@
+pub mod Records
+pub mod Program
+pub mod Image
+pub mod Layout
+pub mod Operands
+pub mod Parts
+pub mod Agrees
+pub mod Fine
+pub mod Accepted
+pub mod Samples

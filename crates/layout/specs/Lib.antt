@@ -1,0 +1,4 @@
+pub mod RecordsLaws
+pub mod ImageLaws
+pub mod Tables
+pub mod Reads
