@@ -1,5 +1,6 @@
 pub mod Records
 pub mod Program
+pub mod Effects
 pub mod Image
 pub mod Layout
 pub mod Operands

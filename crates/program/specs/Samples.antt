@@ -5,7 +5,7 @@ use mathlib.Core.Bool.{true, false}
 use Prim.Native.Nat.{ℕ}
 use Rattle.cells.specs.Le.{leAt}
 use Rattle.image.specs.Records.{both}
-use Rattle.program.specs.Effects.{same, sameEffect}
+use Rattle.image.specs.Effects.{same, sameEffect}
 
 abbrev ask : ℕ → List ℕ
 ask n = 3 ∷ 0 ∷ n ∷ 0 ∷ 0 ∷ 0 ∷ 97 ∷ 115 ∷ 107 ∷ []

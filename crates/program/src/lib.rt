@@ -11,7 +11,7 @@ ghost use Rattle.program.specs.Rules.{kindNumber, limits, Below, counted
 ghost use Rattle.image.specs.Image.{parse};
 ghost use Rattle.program.specs.Reads.{Fits, Reads, refusalOf};
 ghost use Rattle.program.specs.Looks.{bodyAt, noCapture, noConstant};
-ghost use Rattle.program.specs.Effects.{name, same, sameEffect};
+ghost use Rattle.image.specs.Effects.{name, same, sameEffect};
 use image::Capture;
 use image::Constant;
 use image::Op;
