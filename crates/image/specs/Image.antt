@@ -1,14 +1,12 @@
 -- The image as document 01 has it: every list of bytes gets its refusal number or its program.
 use mathlib.Core.List.{List, [], _∷_, _++_}
 use mathlib.Core.Bool.{Bool, true, false}
-use Prim.Native.Nat.{ℕ, zero, suc, _+_, _-_, _*_, _/_}
+use Prim.Native.Nat.{ℕ, zero, suc, _+_, _*_, _/_}
 use lib.ListN.{length}
 use lib.Dec.{ltb, leb, eqb}
 use Rattle.cells.specs.Le.{leAt}
 use Rattle.image.specs.Records.{if?, both, Answer, refused, accepted, then, size, kind, body, after, headed, inside, whole, listed}
 use Rattle.image.specs.Program.{Code, tab, programFine}
-use Rattle.image.specs.declared.Op.{Op}
-use Rattle.image.specs.declared.Capture.{Capture}
 use Rattle.image.specs.declared.Constant.{Constant}
 
 -- ---- Kind 1, a code: parameter count, variadic, locals, stack_size (16 bits each); then one each of 2, 3, 4, 5; then any number of 1

@@ -1,7 +1,7 @@
 -- Where the parts of an image lie, as the reader finds them in one pass: a row of ten numbers for each code, the places of all constants, and the numbers of
 -- the codes in each code. `Image` says what an image is; `layout` is what the reader computes, and `Agrees` shows that the two are one.
 use mathlib.Core.List.{List, [], _∷_, _++_}
-use mathlib.Core.Bool.{Bool, true, false}
+use mathlib.Core.Bool.{Bool}
 use Prim.Native.Nat.{ℕ, zero, suc, _+_, _-_, _*_, _/_}
 use lib.ListN.{length, getD, set}
 use lib.Dec.{ltb, leb, eqb}

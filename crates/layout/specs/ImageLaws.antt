@@ -1,15 +1,15 @@
 -- Laws of what an image is made of: constants' sizes, and the refusal of a record.
-use mathlib.Core.Path.{_≡_, refl, sym, ap, _∙_}
+use mathlib.Core.Path.{_≡_, sym, _∙_}
 use mathlib.Core.List.{List}
 use mathlib.Core.Bool.{Bool, true, false, not}
 use mathlib.Core.Logic.{_⊎_, inl, inr, ⊎-elim}
-use Prim.Native.Nat.{ℕ, zero, suc, _+_, _-_, _<_, _≤_}
+use Prim.Native.Nat.{ℕ, _+_, _-_, _<_, _≤_}
 use native.Mathlib.Omega.{arith}
 use lib.ListN.{length}
 use lib.Dec.{leb, eqb}
-use borrow.Author.Tests.{le-leb, lt-leb, leb-false, eqb-false, eq-eqb, ne-eqb, leb-true, not-false}
+use borrow.Author.Tests.{le-leb, lt-leb, eq-eqb, ne-eqb, not-false}
 use Rattle.cells.specs.Le.{leAt}
-use Rattle.image.specs.Records.{if?, both, size, kind, after, headed, inside}
+use Rattle.image.specs.Records.{if?, both, size, kind, after}
 use Rattle.image.specs.Operands.{least-or, above}
 use Rattle.image.specs.Parts.{constant-true, Entered, entered}
 use Rattle.image.specs.Image.{sized, constant, refusal}

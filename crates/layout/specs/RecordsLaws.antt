@@ -1,5 +1,5 @@
 -- Laws of records: what the tests say, and how long a body is.
-use mathlib.Core.Path.{_≡_, refl, sym, _∙_}
+use mathlib.Core.Path.{_≡_, sym, _∙_}
 use mathlib.Core.List.{List}
 use mathlib.Core.Bool.{Bool, true, false, not}
 use Prim.Native.Nat.{ℕ, _+_, _-_, _%_, _<_, _≤_}
@@ -7,9 +7,9 @@ use native.Mathlib.Omega.{arith}
 use lib.ListN.{length, take, drop, length-drop}
 use lib.Seq.{length-take-le}
 use lib.Dec.{leb, eqb}
-use borrow.Author.Tests.{le-leb, lt-leb, eq-eqb, ne-eqb, leb-true, not-true, not-false}
+use borrow.Author.Tests.{le-leb, lt-leb, eq-eqb, ne-eqb, not-true, not-false}
 use Rattle.image.specs.Parts.{whole-true, listed-true}
-use Rattle.image.specs.Records.{both, size, kind, body, after, whole, listed}
+use Rattle.image.specs.Records.{both, size, kind, after, whole, listed}
 
 -- where what follows a record begins, in the list
 pub record Behind (s : List ℕ) (at r : ℕ) : Type 0 where

@@ -10,7 +10,7 @@ use lib.Dec.{leb}
 use borrow.Author.Tests.{lt-ltb, le-ltb, leb-true, not-true, not-false}
 use Rattle.cells.specs.Le.{leAt, le-part}
 use Rattle.image.specs.Records.{both}
-use Rattle.image.specs.Program.{Code, all, tab, part, noOp, noCode, opcodeFine, lastFine, constantFine, captureFine, countsFine, codeFine, programFine}
+use Rattle.image.specs.Program.{Code, all, tab, noOp, noCode, opcodeFine, lastFine, constantFine, captureFine, countsFine, codeFine, programFine}
 use Rattle.image.specs.Parts.{first, second, length-tab, tab-at}
 use Rattle.image.specs.Layout.{field, opcodeAt, captureAt, codeAt}
 use Rattle.image.specs.declared.Op.{Op}
