@@ -1,0 +1,13 @@
+pub mod Values
+pub mod Machine
+pub mod Opcodes
+pub mod Calls
+pub mod Demand
+pub mod Store
+pub mod DemandLaws
+pub mod Kept
+pub mod Theorem
+pub mod Session
+pub mod StepLaws
+pub mod RunLaws
+pub mod SliceLaws

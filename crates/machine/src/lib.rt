@@ -1,0 +1,1 @@
+// The machine: definitions and theorems only, in specs/.
