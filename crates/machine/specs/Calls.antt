@@ -433,7 +433,7 @@ callOf P z (runs t fuel) w = if? (w .wait) (ends 11 nothing fuel w) (run P z t f
 callOf P z (asks q) w = asked P q w (outcome P z (requestAction P q w) (w .machine))
 callOf P z (loads image) w = loadTrace w (load image z)
 
--- the world after a list of calls, each lent what the last one left
+-- the world after a list of calls, each lent the image of P and what the last one left; an accepted load of another image is not in it but starts a new list
 unfoldable pub callsOf : Program → Sizes → List Call → World → World
 callsOf P z [] w = w
 callsOf P z (c ∷ cs) w = callsOf P z cs (worldAfter (callOf P z c w))

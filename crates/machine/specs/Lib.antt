@@ -11,3 +11,5 @@ pub mod Session
 pub mod StepLaws
 pub mod RunLaws
 pub mod SliceLaws
+pub mod Seen
+pub mod Rows

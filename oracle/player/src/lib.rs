@@ -18,6 +18,7 @@ mod link;
 pub mod observe;
 pub mod opcode;
 pub mod random;
+pub mod rows;
 mod run;
 mod same;
 pub mod snapshot;

@@ -12,6 +12,7 @@ use player::{
     case,
     driver::Driver,
     fuel_rows, image, image_rows, ints_rows,
+    rows::Rows,
     soak::Soak,
     text,
 };
@@ -23,6 +24,8 @@ const USAGE: &str = "usage: player cases FILES..
        player fuel questions|answers > FILE
        player ints questions|answers > FILE
        player images questions|answers > FILE
+       player rows FILES.. > FILE
+       player rows --from SEED --lists N > FILE
        player assemble < TEXT > IMAGE
        player disassemble < IMAGE > TEXT";
 
@@ -42,6 +45,10 @@ fn main() -> ExitCode {
         ["images", options @ ..] => Options::parse(options).and_then(|options| images(&options)),
         ["fuel", "questions"] => write(fuel_replayed(fuel_rows::Question::bytes)),
         ["fuel", "answers"] => write(fuel_replayed(fuel_rows::Question::answer)),
+        ["rows", options @ ..] if options.first().is_some_and(|first| first.starts_with("--")) => {
+            Options::parse(options).and_then(|options| random_rows(&options))
+        }
+        ["rows", files @ ..] if !files.is_empty() => case_rows(files),
         ["assemble"] => assemble_stdin(),
         ["disassemble"] => disassemble_stdin(),
         _ => Err(USAGE.into()),
@@ -161,6 +168,32 @@ fn ints_replayed(bytes: fn(&ints_rows::Question) -> Vec<u8>) -> Vec<u8> {
 /// What `images_replay` is asked, or what the reader here answers to it.
 fn images_replayed(bytes: fn(&[u8]) -> Vec<u8>) -> Vec<u8> {
     image_rows::images().iter().flat_map(|image| bytes(image)).collect()
+}
+
+/// Random lists as rows of antt, and what they hold.
+fn random_rows(options: &Options) -> Outcome {
+    let mut rows = Rows::default();
+    options.seeds().for_each(|seed| rows.random(seed));
+    write_rows(&rows)
+}
+
+/// The cases of the files as rows of antt.
+fn case_rows(files: &[&str]) -> Outcome {
+    let mut rows = Rows::default();
+    for file in files {
+        for case in parse_file(file)? {
+            let mut list = Vec::new();
+            let played = case.play(&mut Driver::new(), &mut |step, after| list.push((step.clone(), after.clone())));
+            played.map_err(|failure| failure.to_string())?;
+            rows.list(&format!("{}: {}", case.name, case.words), &list);
+        }
+    }
+    write_rows(&rows)
+}
+
+fn write_rows(rows: &Rows) -> Outcome {
+    eprintln!("{}", rows.tally());
+    write(rows.text().into_bytes())
 }
 
 fn write(bytes: Vec<u8>) -> Outcome {
