@@ -8,4 +8,5 @@ pub mod Parts
 pub mod Agrees
 pub mod Fine
 pub mod Accepted
+pub mod Build
 pub mod Samples

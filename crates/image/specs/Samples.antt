@@ -1,40 +1,25 @@
 -- Worked images.
 use mathlib.Core.Path.{_≡_, refl}
 use mathlib.Core.List.{List, [], _∷_, _++_, map}
-use Prim.Native.Nat.{ℕ, zero, suc, _+_, _/_, _%_}
+use Prim.Native.Nat.{ℕ, zero, suc, _+_}
 use lib.ListN.{length, set}
 use lib.Dec.{ltb}
 use Rattle.cells.specs.Le.{leAt}
 use Rattle.utf8.specs.Utf8.{starts, char, octets}
+use Rattle.image.specs.Build.{number, recordOf, opcode, code}
 use Rattle.image.specs.Records.{if?, Answer, refused, accepted, whole, listed, both}
 use Rattle.image.specs.Program.{Code, tab, all, operandKind, lastFine, countsFine, codeFine, programFine, captureFine, constantFine, effectFine}
 use Rattle.image.specs.Image.{parse, readBy, readInner, innerFrom, own, constants?, constantsFrom, constant, sized, refusal}
 use Rattle.image.specs.declared.OperandKind.the-variants.{Unused, Count, ValueType, Local, Global, Upvalue, Const, Target, LeftOut}
 
--- ---- images by their parts
--- a number of k bytes
-abbrev number : ℕ → ℕ → List ℕ
-number zero n = []
-number (suc k) n = n % 256 ∷ number k (n / 256)
-
-abbrev recordOf : ℕ → List ℕ → List ℕ
-recordOf kind body = number 4 (length body) ++ number 2 kind ++ body
-
-abbrev opcode : ℕ → ℕ → List ℕ
-opcode n operand = number 2 n ++ number 4 operand
-
--- a code with these opcodes, constants and codes in it, and nothing else
-abbrev codeWith : List ℕ → List ℕ → List ℕ → List ℕ
-codeWith opcodes constants codes = recordOf 1 (number 8 0 ++ recordOf 2 opcodes ++ recordOf 3 [] ++ recordOf 4 [] ++ recordOf 5 constants ++ codes)
-
 -- `Jump 0` with one constant
 abbrev holding : List ℕ → List ℕ
-holding constant = codeWith (opcode 40 0) constant []
+holding constant = code (opcode 40 0) constant []
 
 -- `Jump 0`, with the next such code in it, n deep
 abbrev nest : ℕ → List ℕ
 nest zero = []
-nest (suc n) = codeWith (opcode 40 0) [] (nest n)
+nest (suc n) = code (opcode 40 0) [] (nest n)
 
 abbrev jumping : List ℕ → Code
 jumping codes = record { params = 0; variadic = 0; locals = 0; stackSize = 0; opcodes = record { number = 40; operand = 0 } ∷ []; globals = []; captures = []; constants = []; codes = codes }
@@ -57,7 +42,7 @@ unfolding answer
 deepest = refl
 
 abbrev null : List ℕ
-null = codeWith (opcode 6 0 ++ opcode 37 0) (recordOf 16 []) []
+null = code (opcode 6 0 ++ opcode 37 0) (recordOf 16 []) []
 
 null-size : length null ≡ 56
 null-size = refl
@@ -99,8 +84,8 @@ rows =
     ∷ row (holding (recordOf 23 (4 ∷ 0 ∷ 0 ∷ 0 ∷ 0 ∷ 0 ∷ 0 ∷ []))) 3
     ∷ row (holding (recordOf 23 (1 ∷ 0 ∷ 0 ∷ []))) 2
     ∷ row (holding (recordOf 23 (1 ∷ []))) 2
-    ∷ row (codeWith (opcode 38 0) [] []) 3
-    ∷ row (codeWith (opcode 0 1 ++ opcode 40 0) [] []) 3
+    ∷ row (code (opcode 38 0) [] []) 3
+    ∷ row (code (opcode 0 1 ++ opcode 40 0) [] []) 3
     ∷ []
 
 refusals : map (λ (r : Row). parse (r .image)) rows ≡ map (λ (r : Row). refused (r .number)) rows

@@ -2,73 +2,53 @@
 use mathlib.Core.Path.{_≡_, refl}
 use mathlib.Core.List.{List, [], _∷_, _++_, map}
 use mathlib.Core.Bool.{true, false}
-use Prim.Native.Nat.{ℕ, zero, suc, _+_, _-_, _/_, _%_}
+use Prim.Native.Nat.{ℕ, zero, suc, _+_, _-_}
 use lib.IntN.{pos}
-use lib.ListN.{length}
 use Rattle.cells.specs.Cells.{null}
 use Rattle.cells.specs.declared.Cell.{Cell}
 use Rattle.fuel.specs.Fuels.{with, empty}
+use Rattle.image.specs.Build.{number, recordOf, opcode, codeWith, code}
 use Rattle.image.specs.Records.{Answer, accepted}
 use Rattle.machine.specs.Values.{cell, bool, int, listAt, closureAt, continuationAt, callArguments}
 use Rattle.machine.specs.Machine.{Frame, lucia, Object, closure, list, continuation, Result, running, returned, failed, unhandled}
 use Rattle.machine.specs.Calls.{Call, runs, asks, start, clear, nothing, gives}
 use Rattle.machine.specs.Seen.{Named, Left, named, handler, sizes, leaves, sees, every-rule}
 
--- ---- Images by their parts
--- a number of k bytes
-abbrev number : ℕ → ℕ → List ℕ
-number zero n = []
-number (suc k) n = n % 256 ∷ number k (n / 256)
-
-abbrev recordOf : ℕ → List ℕ → List ℕ
-recordOf kind body = number 4 (length body) ++ number 2 kind ++ body
-
--- a code without locals and captures; and one without parameters and globals too
-abbrev codeWith : (params variadic : ℕ) (opcodes globals constants codes : List ℕ) → List ℕ
-codeWith params variadic opcodes globals constants codes =
-    recordOf 1 (number 2 params ++ number 2 variadic ++ number 4 0 ++ recordOf 2 opcodes ++ recordOf 3 globals ++ recordOf 4 [] ++ recordOf 5 constants ++ codes)
-
-abbrev code : (opcodes constants codes : List ℕ) → List ℕ
-code opcodes constants codes = codeWith 0 0 opcodes [] constants codes
-
--- opcodes
-abbrev op : ℕ → ℕ → List ℕ
-op n operand = number 2 n ++ number 4 operand
-
+-- ---- Opcodes and constants
 abbrev Pop : List ℕ
-Pop = op 0 0
+Pop = opcode 0 0
 
 abbrev LoadConst : ℕ → List ℕ
-LoadConst = op 6
+LoadConst = opcode 6
 
 abbrev StoreGlobal : ℕ → List ℕ
-StoreGlobal = op 8
+StoreGlobal = opcode 8
 
 abbrev Div : List ℕ
-Div = op 22 0
+Div = opcode 22 0
 
 abbrev Rem : List ℕ
-Rem = op 23 0
+Rem = opcode 23 0
 
 abbrev Call0 : List ℕ
-Call0 = op 36 0
+Call0 = opcode 36 0
 
 abbrev Return : List ℕ
-Return = op 37 0
+Return = opcode 37 0
 
 abbrev ReturnCall0 : List ℕ
-ReturnCall0 = op 38 0
+ReturnCall0 = opcode 38 0
 
 abbrev Jump : ℕ → List ℕ
-Jump = op 40
+Jump = opcode 40
 
 abbrev RegisterHandler : ℕ → List ℕ
-RegisterHandler = op 49
+RegisterHandler = opcode 49
 
 -- n times `MarkAddStackSize 0`
 abbrev marks : ℕ → List ℕ
 marks zero = []
-marks (suc n) = op 51 0 ++ marks n
+marks (suc n) = opcode 51 0 ++ marks n
 
 -- constants: null, true, an Int of this pattern, the function of code 0, and the effects e and f without parameters
 abbrev nullConst : List ℕ
