@@ -6,6 +6,7 @@ pub mod Demand
 pub mod Store
 pub mod DemandLaws
 pub mod Kept
+pub mod Local
 pub mod Theorem
 pub mod Session
 pub mod StepLaws
