@@ -14,3 +14,5 @@ pub mod RunLaws
 pub mod SliceLaws
 pub mod Seen
 pub mod Rows
+pub mod Refusals
+pub mod RequestRefusals
