@@ -11,6 +11,8 @@ pub mod Theorem
 pub mod Session
 pub mod StepLaws
 pub mod RunLaws
+pub mod Formed
+pub mod FormedLaws
 pub mod SliceLaws
 pub mod Seen
 pub mod Rows
