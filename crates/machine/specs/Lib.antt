@@ -1,20 +1,24 @@
+-- The machine. What a reader must believe: Values, Machine, Opcodes, Calls.
 pub mod Values
 pub mod Machine
 pub mod Opcodes
 pub mod Calls
+-- Demand 3: the statement is Demand, the theorem the end of Theorem; Session is the same of any memory that contracts allow.
 pub mod Demand
 pub mod Store
 pub mod DemandLaws
 pub mod Kept
-pub mod Local
 pub mod Theorem
 pub mod Session
+-- Laws: of steps, of runs (ticks, pauses, endings) and of slices; every machine reached is in form; which refusals each step can give; what a step does not read.
 pub mod StepLaws
 pub mod RunLaws
+pub mod SliceLaws
 pub mod Formed
 pub mod FormedLaws
-pub mod SliceLaws
-pub mod Seen
-pub mod Rows
 pub mod Refusals
 pub mod RequestRefusals
+pub mod Local
+-- Rows that the checker computes: P1 to P12, and those that the oracle writes.
+pub mod Seen
+pub mod Rows
