@@ -10,7 +10,6 @@ use Rattle.image.specs.Build.{number, recordOf, opcode, code}
 use Rattle.image.specs.Records.{if?, Answer, refused, accepted, whole, listed, both}
 use Rattle.image.specs.Program.{Code, tab, all, operandKind, lastFine, countsFine, codeFine, programFine, captureFine, constantFine, effectFine}
 use Rattle.image.specs.Image.{parse, readBy, readInner, innerFrom, own, constants?, constantsFrom, constant, sized, refusal}
-use Rattle.image.specs.declared.OperandKind.the-variants.{Unused, Count, ValueType, Local, Global, Upvalue, Const, Target, LeftOut}
 
 -- `Jump 0` with one constant
 abbrev holding : List ℕ → List ℕ
@@ -96,14 +95,3 @@ refusals = refl
 last-code : map (λ (n : ℕ). refusal 7 n (number 4 1000 ++ number 2 1) 0) (256 ∷ 255 ∷ []) ≡ 4 ∷ 2 ∷ []
 unfolding answer
 last-code = refl
-
--- ---- operands by the opcode's number, in the order of the enum
-operands : tab 52 operandKind
-    ≡ Unused ∷ Count ∷ Count ∷ Local ∷ Global ∷ Upvalue ∷ Const ∷ Local ∷ Global ∷ LeftOut
-    ∷ Count ∷ LeftOut ∷ LeftOut ∷ LeftOut ∷ LeftOut ∷ LeftOut ∷ LeftOut ∷ Unused ∷ Unused ∷ Unused
-    ∷ Unused ∷ Unused ∷ Unused ∷ Unused ∷ Unused ∷ Unused ∷ Unused ∷ Unused ∷ Unused ∷ Unused
-    ∷ ValueType ∷ LeftOut ∷ LeftOut ∷ LeftOut ∷ LeftOut ∷ LeftOut ∷ Count ∷ Unused ∷ Count ∷ LeftOut
-    ∷ Target ∷ Target ∷ Target ∷ Target ∷ Target ∷ Target ∷ Target ∷ Target ∷ Target ∷ Target
-    ∷ Count ∷ Count ∷ []
-unfolding tab operandKind
-operands = refl
