@@ -10,10 +10,11 @@ pub mod DemandLaws
 pub mod Kept
 pub mod Theorem
 pub mod Session
--- Laws: of steps, of runs (ticks, pauses, endings) and of slices; every machine reached is in form; which refusals each step can give; what a step does not read.
+-- Laws: of steps, of runs (ticks, pauses, endings), of slices and of one group; every machine reached is in form; which refusals each step can give; what a step does not read.
 pub mod StepLaws
 pub mod RunLaws
 pub mod SliceLaws
+pub mod Group
 pub mod Formed
 pub mod FormedLaws
 pub mod Refusals
