@@ -201,23 +201,26 @@ isContinuationAt absent = false
 unfoldable pub isConstant : Program → ℕ → Cell → Bool
 isConstant P k v = both (ltb (v .payload) (length (codeOf P (v .number) .constants))) (eqb (constantOf P v .kind) k)
 
-unfoldable pub isValue : Program → List Object → Cell → Bool
-isValue P s v =
+-- whether a cell is a value, given what stands at its number: a list, a closure, a continuation
+abbrev pub valueIs : Program → Bool → Bool → Bool → Cell → Bool
+valueIs P list? closure? continuation? v =
     let plain = eqb (v .payload) 0 in
-    let o = objectAt s (v .number) in
     if? (eqb (v .tag) 0) (both (eqb (v .number) 0) plain)
     (if? (eqb (v .tag) 1) (both (leb (v .number) 1) plain)
     (if? (eqb (v .tag) 2) (eqb (v .number) 0)
     (if? (eqb (v .tag) 3) (eqb (v .number) 0)
     (if? (eqb (v .tag) 4) (isConstant P 20 v)
     (if? (eqb (v .tag) 5) (isConstant P 21 v)
-    (if? (eqb (v .tag) 6) (both plain (isListAt o))
-    (if? (eqb (v .tag) 7) (both plain (isClosureAt o))
+    (if? (eqb (v .tag) 6) (both plain list?)
+    (if? (eqb (v .tag) 7) (both plain closure?)
     (if? (eqb (v .tag) 8) (both (leb (v .number) 2) plain)
     (if? (eqb (v .tag) 20) (both (both (leb 1 (v .number)) (leb (v .number) 6)) plain)
-    (if? (eqb (v .tag) 23) (both plain (isContinuationAt o))
+    (if? (eqb (v .tag) 23) (both plain continuation?)
     (if? (eqb (v .tag) 24) (both (isConstant P 23 v) (eqb (leAt 2 (bytesAt P v) 0) 3))
     (eqb (v .tag) 39))))))))))))
+
+unfoldable pub isValue : Program → List Object → Cell → Bool
+isValue P s v = let o = objectAt s (v .number) in valueIs P (isListAt o) (isClosureAt o) (isContinuationAt o) v
 
 unfoldable pub areValues : Program → List Object → List Cell → Bool
 areValues P s [] = true

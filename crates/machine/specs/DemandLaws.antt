@@ -60,7 +60,7 @@ module _ (P : Program) (e : Cell) where
       by false q w = find-under f fs (find P e fs) (holds-false (handlersOf f) q) w
 
   -- What `search` tells of the frames.
-  abbrev Searches : List Frame → Found → Type 0
+  abbrev pub Searches : List Frame → Found → Type 0
   Searches F (found above h below) = Captured P e F above h below
   Searches F nowhere = All (λ f. Handles P e f → ⊥) (underTop F)
 
@@ -69,7 +69,7 @@ module _ (P : Program) (e : Cell) where
   search-under f fs (found above h below) w = record { top = f; between = above; frames = ap (λ (l : List Frame). f ∷ l) (w .0); captured = refl; handles = w .1; highest = w .2 }
   search-under f fs nowhere w = w
 
-  search-law : (F : List Frame) → Searches F (search P e F)
+  pub search-law : (F : List Frame) → Searches F (search P e F)
   unfolding search
   search-law [] = tt
   search-law (f ∷ fs) = search-under f fs (find P e fs) (find-law fs)

@@ -4,7 +4,7 @@ use mathlib.Core.List.{List, [], _∷_, _++_}
 use mathlib.Core.Bool.{Bool, true, false}
 use Prim.Native.Nat.{ℕ, zero, suc, _-_, _<_, _≤_}
 use native.Mathlib.Omega.{arith}
-use lib.ListN.{length, replicate, length-replicate}
+use lib.ListN.{length, length-replicate}
 use lib.Dec.{eqb, ltb}
 use Rattle.cells.specs.Cells.{null}
 use Rattle.cells.specs.declared.Cell.{Cell}
@@ -56,11 +56,11 @@ pub record Formed (P : Program) (m : M) : Type 0 where
 
 -- ---- All of a list
 module _ {A : Type 0} where
-  all-map : {Q R : A → Type 0} → ((x : A) → Q x → R x) → (l : List A) → All Q l → All R l
+  pub all-map : {Q R : A → Type 0} → ((x : A) → Q x → R x) → (l : List A) → All Q l → All R l
   all-map f [] h = tt
   all-map f (x ∷ l) h = (f x (h .0), all-map f l (h .1))
 
-  all-append : (Q : A → Type 0) (a b : List A) → All Q a → All Q b → All Q (a ++ b)
+  pub all-append : (Q : A → Type 0) (a b : List A) → All Q a → All Q b → All Q (a ++ b)
   all-append Q [] b h k = k
   all-append Q (x ∷ a) b h k = (h .0, all-append Q a b (h .1) k)
 
@@ -77,7 +77,7 @@ all-at Q (x ∷ s) k o a h = by (eqb k 0) (ltb k (cost x)) (all-at Q s (k - cost
 
 -- ---- The store grows
 module _ (P : Program) (s new : List Object) where
-  frame-grown : (f : Frame) → FrameFormed P s f → FrameFormed P (s ++ new) f
+  pub frame-grown : (f : Frame) → FrameFormed P s f → FrameFormed P (s ++ new) f
   frame-grown (lucia h p l st hs) w =
       let i = w .stands in
       record {
@@ -94,6 +94,51 @@ module _ (P : Program) (s new : List Object) where
 
   store-grown : All (ObjectFormed P s) s → All (ObjectFormed P s) new → All (ObjectFormed P (s ++ new)) (s ++ new)
   store-grown h k = all-map object-grown (s ++ new) (all-append (ObjectFormed P s) s new h k)
+
+-- ---- A search
+-- Q holds of the frame found, and of those above and below it.
+abbrev pub FoundAll : (Frame → Type 0) → Found → Type 0
+FoundAll Q (found above h below) = All Q above × Q h × All Q below
+FoundAll Q nowhere = Unit {0}
+
+module _ (Q : Frame → Type 0) where
+  under-all : (f : Frame) (x : Found) → Q f → FoundAll Q x → FoundAll Q (under f x)
+  unfolding under
+  under-all f (found above h below) w k = ((w, k .0), k .1, k .2)
+  under-all f nowhere w k = tt
+
+  find-all : (P : Program) (e : Cell) (F : List Frame) → All Q F → FoundAll Q (find P e F)
+  unfolding find
+  find-all P e [] h = tt
+  find-all P e (f ∷ F) h = if-cases (FoundAll Q) (holds P e (handlersOf f)) _ _ (λ _. (tt, h .0, h .1)) (λ _. under-all f (find P e F) (h .0) (find-all P e F (h .1)))
+
+  pub search-all : (P : Program) (e : Cell) (F : List Frame) → All Q F → FoundAll Q (search P e F)
+  unfolding search
+  search-all P e [] h = tt
+  search-all P e (f ∷ F) h = under-all f (find P e F) (h .0) (find-all P e F (h .1))
+
+-- What holds of each kind of function holds of the one that a value is.
+pub function-cases : (Q : Function → Type 0) (s : List Object) (v : Cell) → (isEffect v ≡ true → Q (isEffectCallback v)) → Q (isCallback (v .number) (v .payload))
+    → ((c : ℕ) (us : List Cell) → objectAt s (v .number) ≡ here (closure c us) → Q (isClosure (v .number) c))
+    → ((K : List Frame) → objectAt s (v .number) ≡ here (continuation K) → Q (isContinuation (v .number) K)) → Q isNone → Q (functionOf s v)
+unfolding functionOf closureFunction continuationFunction
+function-cases Q s v effect callback closed continued none =
+    if-cases Q (isEffect v) _ _ effect (λ _.
+    if-cases Q (eqb (v .tag) 39) _ _ (λ _. callback) (λ _.
+    if-cases Q (eqb (v .tag) 7) _ _ (λ _. ofClosure (objectAt s (v .number)) refl) (λ _.
+    if-cases Q (eqb (v .tag) 23) _ _ (λ _. ofContinuation (objectAt s (v .number)) refl) (λ _. none))))
+  where
+    ofClosure : (o : Lookup) → objectAt s (v .number) ≡ o → Q (closureFunction (v .number) o)
+    ofClosure (here (closure c us)) q = closed c us q
+    ofClosure (here (list vs)) q = none
+    ofClosure (here (continuation K)) q = none
+    ofClosure absent q = none
+
+    ofContinuation : (o : Lookup) → objectAt s (v .number) ≡ o → Q (continuationFunction (v .number) o)
+    ofContinuation (here (closure c us)) q = none
+    ofContinuation (here (list vs)) q = none
+    ofContinuation (here (continuation K)) q = continued K q
+    ofContinuation absent q = none
 
 module _ (P : Program) where
   parse-frames : (b : Bool) (n : ℕ) (args : List Cell) (s : List Object) (F : List Frame) → All (FrameFormed P s) F → All (FrameFormed P (parse b n args s .store)) F
@@ -112,7 +157,7 @@ module _ (P : Program) where
   target-in n e [] z h = z
   target-in n e (x ∷ hs) z h = if-cases (λ t. t < n) (equalEffects P (x .effect) e) _ _ (λ _. h .0) (λ _. target-in n e hs z (h .1))
 
-  enter-formed : (s : List Object) (e k : Cell) (args : List Cell) (f : Frame) → FrameFormed P s f → FrameFormed P s (enter P e k args f)
+  pub enter-formed : (s : List Object) (e k : Cell) (args : List Cell) (f : Frame) → FrameFormed P s f → FrameFormed P s (enter P e k args f)
   unfolding enter handlersOf effects
   enter-formed s e k args (lucia h p l st hs) w =
       let i = w .stands in
@@ -123,26 +168,7 @@ module _ (P : Program) where
   enter-formed s e k args (host n v st hs) w = record { stands = tt; handlers = omega arith }
   enter-formed s e k args (effectCallback x st hs) w = record { stands = tt; handlers = omega arith }
 
-  abbrev FoundFormed : List Object → Found → Type 0
-  FoundFormed s (found above h below) = All (FrameFormed P s) above × FrameFormed P s h × All (FrameFormed P s) below
-  FoundFormed s nowhere = Unit {0}
-
-  under-formed : (s : List Object) (f : Frame) (x : Found) → FrameFormed P s f → FoundFormed s x → FoundFormed s (under f x)
-  unfolding under
-  under-formed s f (found above h below) w k = ((w, k .0), k .1, k .2)
-  under-formed s f nowhere w k = tt
-
-  find-formed : (s : List Object) (e : Cell) (F : List Frame) → All (FrameFormed P s) F → FoundFormed s (find P e F)
-  unfolding find
-  find-formed s e [] h = tt
-  find-formed s e (f ∷ F) h = if-cases (FoundFormed s) (holds P e (handlersOf f)) _ _ (λ _. (tt, h .0, h .1)) (λ _. under-formed s f (find P e F) (h .0) (find-formed s e F (h .1)))
-
-  search-formed : (s : List Object) (e : Cell) (F : List Frame) → All (FrameFormed P s) F → FoundFormed s (search P e F)
-  unfolding search
-  search-formed s e [] h = tt
-  search-formed s e (f ∷ F) h = under-formed s f (find P e F) (h .0) (find-formed s e F (h .1))
-
-  capture-shaped : (p : Params) (e : Cell) (args : List Cell) (left : Result) (m : M) (x : Found) → Shaped P m → FoundFormed (m .store) x → Shaped P (capture P p e args left m x)
+  capture-shaped : (p : Params) (e : Cell) (args : List Cell) (left : Result) (m : M) (x : Found) → Shaped P m → FoundAll (FrameFormed P (m .store)) x → Shaped P (capture P p e args left m x)
   unfolding capture
   capture-shaped p e args left m nowhere w k = record { frames = w .frames; store = w .store }
   capture-shaped p e args left m (found above h below) w k =
@@ -156,7 +182,7 @@ module _ (P : Program) where
   perform-shaped : (throw : Error → M → M) (e : Cell) (args : List Cell) (left : Result) (m : M) → Shaped P m → ((x : Error) → Shaped P (throw x m)) → Shaped P (performBy throw P e args left m)
   unfolding performBy
   perform-shaped throw e args left m w h =
-      if-cases (Shaped P) (checkArgs (effectParams P e) args) _ _ (λ _. capture-shaped (effectParams P e) e args left m _ w (search-formed (m .store) e (m .frames) (w .frames))) (λ _. h (wrongCount (effectParams P e) args))
+      if-cases (Shaped P) (checkArgs (effectParams P e) args) _ _ (λ _. capture-shaped (effectParams P e) e args left m _ w (search-all (FrameFormed P (m .store)) P e (m .frames) (w .frames))) (λ _. h (wrongCount (effectParams P e) args))
 
   throw-shaped : (n : ℕ) (x : Error) (m : M) → Shaped P m → Shaped P (throwError n P x m)
   unfolding throwError
@@ -164,36 +190,18 @@ module _ (P : Program) where
   throw-shaped (suc n) x m w = perform-shaped (throwError n P) (thrown x) (shown x ∷ []) (failed x) m w (λ y. throw-shaped n y m w)
 
   -- ---- Calls and returns
-  abbrev FunctionFormed : List Object → Function → Type 0
+  abbrev pub FunctionFormed : List Object → Function → Type 0
   FunctionFormed s (isClosure h c) = (us : List Cell) × (objectAt s h ≡ here (closure c us)) × (c < length (P .codes))
   FunctionFormed s (isCallback n w) = Unit {0}
   FunctionFormed s (isEffectCallback e) = Unit {0}
   FunctionFormed s (isContinuation k K) = All (FrameFormed P s) K
   FunctionFormed s isNone = Unit {0}
 
-  closure-function : (s : List Object) (k : ℕ) (o : Lookup) → objectAt s k ≡ o → All (ObjectFormed P s) s → FunctionFormed s (closureFunction k o)
-  unfolding closureFunction
-  closure-function s k (here (closure c us)) q h = (us, q, all-at (ObjectFormed P s) s k (closure c us) h q .0)
-  closure-function s k (here (list vs)) q h = tt
-  closure-function s k (here (continuation K)) q h = tt
-  closure-function s k absent q h = tt
-
-  continuation-function : (s : List Object) (k : ℕ) (o : Lookup) → objectAt s k ≡ o → All (ObjectFormed P s) s → FunctionFormed s (continuationFunction k o)
-  unfolding continuationFunction
-  continuation-function s k (here (closure c us)) q h = tt
-  continuation-function s k (here (list vs)) q h = tt
-  continuation-function s k (here (continuation K)) q h = all-at (ObjectFormed P s) s k (continuation K) h q
-  continuation-function s k absent q h = tt
-
   function-formed : (s : List Object) (v : Cell) → All (ObjectFormed P s) s → FunctionFormed s (functionOf s v)
-  unfolding functionOf
   function-formed s v h =
-      if-cases (FunctionFormed s) (isEffect v) _ _ (λ _. tt) (λ _.
-      if-cases (FunctionFormed s) (eqb (v .tag) 39) _ _ (λ _. tt) (λ _.
-      if-cases (FunctionFormed s) (eqb (v .tag) 7) _ _ (λ _. closure-function s (v .number) _ refl h) (λ _.
-      if-cases (FunctionFormed s) (eqb (v .tag) 23) _ _ (λ _. continuation-function s (v .number) _ refl h) (λ _. tt))))
+      function-cases (FunctionFormed s) s v (λ _. tt) tt (λ c us q. (us, q, all-at (ObjectFormed P s) s _ (closure c us) h q .0)) (λ K q. all-at (ObjectFormed P s) s _ (continuation K) h q) tt
 
-  give-formed : (s : List Object) (v : Cell) (f : Frame) → FrameFormed P s f → FrameFormed P s (give v f)
+  pub give-formed : (s : List Object) (v : Cell) (f : Frame) → FrameFormed P s f → FrameFormed P s (give v f)
   unfolding give handlersOf
   give-formed s v (lucia h p l st hs) w = record { stands = w .stands; handlers = w .handlers }
   give-formed s v (host n x st hs) w = record { stands = tt; handlers = w .handlers }
@@ -210,7 +218,7 @@ module _ (P : Program) where
   resume-shaped K (v ∷ []) m w k = record { frames = all-append (FrameFormed P (m .store)) (putBack v K) (m .frames) (put-formed (m .store) v K k) (w .frames); store = w .store }
   resume-shaped K (v ∷ x ∷ vs) m w k = throw-shaped 1 _ m w
 
-  receive-formed : (s : List Object) (v : Cell) (f : Frame) → FrameFormed P s f → FrameFormed P s (receive v f)
+  pub receive-formed : (s : List Object) (v : Cell) (f : Frame) → FrameFormed P s f → FrameFormed P s (receive v f)
   unfolding receive handlersOf effects
   receive-formed s v (lucia h p l st hs) w =
       let i = w .stands in
@@ -226,21 +234,28 @@ module _ (P : Program) where
   return-shaped v m w [] h = record { frames = w .frames; store = w .store }
   return-shaped v m w (f ∷ F) h = record { frames = (receive-formed (m .store) v f (h .0), h .1); store = w .store }
 
+  pub new-formed : (s : List Object) (h c : ℕ) (args : List Cell) → Accepted (P .image) (P .codes) → FunctionFormed s (isClosure h c) → FrameFormed P s (newFrame h (codeOf P c) args)
+  unfolding handlersOf effects
+  new-formed s h c args a k = record {
+    stands = record {
+      code = c;
+      upvalues = k .0;
+      closureThere = k .1;
+      known = k .2;
+      place = omega (arith, a .fine c (k .2) .some);
+      locals = length-replicate (codeOf P c .locals) null;
+      targets = tt;
+    };
+    handlers = omega arith;
+  }
+
   closure-shaped : (h c : ℕ) (args : List Cell) (m : M) → Accepted (P .image) (P .codes) → Shaped P m → FunctionFormed (m .store) (isClosure h c) → Shaped P (callClosure P h (codeOf P c) args m)
-  unfolding callClosure handlersOf effects
+  unfolding callClosure
   closure-shaped h c args m a w k =
       let p = codeParams (codeOf P c) in
-      let i : Inside P (m .store) h 0 (replicate (codeOf P c .locals) null) [] = record {
-        code = c;
-        upvalues = k .0;
-        closureThere = k .1;
-        known = k .2;
-        place = omega (arith, a .fine c (k .2) .some);
-        locals = length-replicate (codeOf P c .locals) null;
-        targets = tt;
-      } in
+      let got = parseArgs p args (m .store) .args in
       if-cases (Shaped P) (checkArgs p args) _ _ (λ _. record {
-        frames = parse-frames (p .variadic) (p .count) args (m .store) (newFrame h (codeOf P c) (parseArgs p args (m .store) .args) ∷ m .frames) (record { stands = i; handlers = omega arith }, w .frames);
+        frames = parse-frames (p .variadic) (p .count) args (m .store) (newFrame h (codeOf P c) got ∷ m .frames) (new-formed (m .store) h c got a k, w .frames);
         store = parse-store (p .variadic) (p .count) args (m .store) (w .store);
       })
       (λ _. throw-shaped 1 (wrongCount p args) m w)

@@ -29,7 +29,7 @@ use Rattle.machine.specs.RunLaws.{Lawful, Leads, run-law}
 use Rattle.machine.specs.Formed.{FrameFormed, Shaped, Formed, LeftFormed, doing-shaped}
 
 -- The action, if one is taken, leaves what is in form, where its frame has at most 16 handlers.
-data FormedIf (P : Program) (s : List Object) : Taken → Type 0 where
+pub data FormedIf (P : Program) (s : List Object) : Taken → Type 0 where
   took : (d : Action) → (handlersLeft d ≤ 16 → LeftFormed P s d) → FormedIf P s (takes d)
   not : (n : ℕ) → FormedIf P s (refuses n)
 
@@ -202,7 +202,7 @@ module _ (P : Program) (a : Accepted (P .image) (P .codes)) where
   closure-formed m h p l st hs below (here (continuation K)) q w = not 7
   closure-formed m h p l st hs below absent q w = not 7
 
-  next-formed : (m : M) (F : List Frame) → All (FrameFormed P (m .store)) F → FormedIf P (m .store) (nextAction P m F)
+  pub next-formed : (m : M) (F : List Frame) → All (FrameFormed P (m .store)) F → FormedIf P (m .store) (nextAction P m F)
   unfolding nextAction
   next-formed m [] w = not 11
   next-formed m (lucia h p l st hs ∷ below) w = closure-formed m h p l st hs below (objectAt (m .store) h) refl w
@@ -227,7 +227,7 @@ module _ (P : Program) (s : List Object) where
   answered-formed word r (host n x st hs ∷ below) w = answer-formed n word st hs below r (w .0 .handlers) (w .1)
   answered-formed word r (effectCallback e st hs ∷ below) w = not 11
 
-request-formed : (P : Program) (q : Request) (w : World) → All (FrameFormed P (w .machine .store)) (w .machine .frames) → FormedIf P (w .machine .store) (requestAction P q w)
+pub request-formed : (P : Program) (q : Request) (w : World) → All (FrameFormed P (w .machine .store)) (w .machine .frames) → FormedIf P (w .machine .store) (requestAction P q w)
 unfolding requestAction
 request-formed P (start f args) w h = either (idle (w .machine .result) (w .machine .frames)) (fit-formed _ _ (λ _. tt)) (not 11)
 request-formed P (answer word fuel r) w h = either (w .wait) (answered-formed P (w .machine .store) word r (w .machine .frames) h) (not 11)
@@ -274,7 +274,7 @@ end-machine P (getGlobal g) w m = refl
 end-machine P (setBuiltin g v) w m = refl
 end-machine P (getBuiltin g) w m = refl
 
-taken-formed : {P : Program} {s : List Object} {t : Taken} (d : Action) → FormedIf P s t → t ≡ takes d → handlersLeft d ≤ 16 → LeftFormed P s d
+pub taken-formed : {P : Program} {s : List Object} {t : Taken} (d : Action) → FormedIf P s t → t ≡ takes d → handlersLeft d ≤ 16 → LeftFormed P s d
 taken-formed d (took x h) q = let y : x ≡ d = cc in rw y at h
 taken-formed d (not n) q = let z : _≡_ {A = ℕ} 0 1 = cc in absurd (omega arith)
 

@@ -10,13 +10,18 @@ pub mod DemandLaws
 pub mod Kept
 pub mod Theorem
 pub mod Session
--- Laws: of steps, of runs (ticks, pauses, endings), of slices and of one group; every machine reached is in form; which refusals each step can give; what a step does not read.
+-- Laws: of steps, of runs (ticks, pauses, endings), of slices and of one group; every machine reached is in form; the form that refusal 7 tests (Form) is closed under the rules (FormLaws); which refusals each step can give; what a step does not read.
 pub mod StepLaws
 pub mod RunLaws
 pub mod SliceLaws
 pub mod Group
 pub mod Formed
 pub mod FormedLaws
+pub mod Form
+pub mod ValueLaws
+pub mod FormRules
+pub mod FormActions
+pub mod FormLaws
 pub mod Refusals
 pub mod RequestRefusals
 pub mod Local

@@ -14,6 +14,7 @@ use Rattle.machine.specs.Values.{Program, codeOf, Params, codeParams, ef
 use Rattle.machine.specs.Machine.{Handler, Frame, lucia, host, effectCallback, Object, closure, list, continuation, Result, running, returned, failed, unhandled, M, withFrames, frameCost, framesCost, cost, used, resultCost, Lookup, here, absent, objectAt, checkArgs, wrongCount, parse, parseArgs, holds, handlersOf, Found, found, nowhere, under, find, search, enter, capture, performBy, throwError, performEffect, Function, isClosure, isCallback, isEffectCallback, isContinuation, isNone, functionOf, newFrame, putBack, resume, callClosure, callFunction, receive, returnValue}
 use Rattle.machine.specs.Opcodes.{Action, goes, jumps, makes, sets, setsBuiltin, calls, performs, throws, returns, clears, doing, Taken, takes, refuses, Running, withTop, withTwo, computed, reaches, loadConst, loadGlobal, Operands, operands, tooFew, operandsOf, callable, callTaken, buildList, popJump, jumpOrPop, registerHandler, checkEffect, between, opcodeAction, closureAction, nextAction}
 use Rattle.machine.specs.Calls.{Sizes, topHandlers, handlersLeft, Outcome, does, stops, judge, outcome, turnOf}
+use Rattle.machine.specs.Store.{used-append}
 
 -- ---- Alike frames
 -- Two frames are alike: the same but for the values of locals and stack, of which there are as many.
@@ -243,11 +244,6 @@ unfolding frameCost receive
 receive-cost v (alikeLucia p q) = omega (arith, p, q)
 receive-cost v (alikeHost q) = refl
 receive-cost v (alikeEffect q) = refl
-
-used-append : (s t : List Object) → used (s ++ t) ≡ used s + used t
-unfolding used
-used-append [] t = omega arith
-used-append (o ∷ s) t = omega (arith, used-append s t)
 
 -- Captured frames that are alike take as much of the store.
 captured-used : (s : List Object) {F G : List Frame} → Alike F G → used (s ++ (continuation G ∷ [])) ≡ used (s ++ (continuation F ∷ []))

@@ -47,7 +47,7 @@ pub record Within (n : ℕ) (m after : M) : Type 0 where
   pub frames : length (after .frames) ≤ length (m .frames)
   pub live : liveCells after ≤ liveCells m + n
 
-take-short : (n : ℕ) (l : List Cell) → length (take n l) ≤ length l
+pub take-short : (n : ℕ) (l : List Cell) → length (take n l) ≤ length l
 take-short zero l = omega arith
 take-short (suc n) [] = omega arith
 take-short (suc n) (v ∷ l) = omega (arith, take-short n l)

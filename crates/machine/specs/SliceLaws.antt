@@ -130,7 +130,7 @@ slice-no-host P left (calls f args F) m t e = λ q. let z : _≡_ {A = ℕ} 0 1 
 slice-no-host P left (performs x args F) m t e = λ q. let z : _≡_ {A = ℕ} 0 1 = cc in omega arith
 slice-no-host P left (throws x F) m t e = λ q. let z : _≡_ {A = ℕ} 0 1 = cc in omega arith
 slice-no-host P left (returns v F) m t e = λ q. let z : _≡_ {A = ℕ} 0 1 = cc in omega arith
-slice-no-host P left clears m t e = λ q. let z : _≡_ {A = ℕ} 0 1 = cc in omega arith
+slice-no-host P left clears m t e = absurd t
 
 -- ---- The bound
 abbrev NoHost : M → Type 0

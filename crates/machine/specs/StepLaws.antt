@@ -49,7 +49,7 @@ kept-both a b c k l = record { grown = grown-both (a .store) (b .store) (c .stor
 abbrev Grows : M → M → Type 0
 Grows m after = Grown (m .store) (after .store) × (after .globals ≡ m .globals) × (after .builtins ≡ m .builtins)
 
-parse-grown : (b : Bool) (n : ℕ) (args : List Cell) (s : List Object) → Grown s (parse b n args s .store)
+pub parse-grown : (b : Bool) (n : ℕ) (args : List Cell) (s : List Object) → Grown s (parse b n args s .store)
 unfolding parse
 parse-grown true n args s = record { new = list (drop n args) ∷ []; store = refl }
 parse-grown false n args s = grown-none s
@@ -122,7 +122,7 @@ pub record Fits (z : Sizes) (m : M) : Type 0 where
 pub data LuciaTop : List Frame → Type 0 where
   luciaTop : {c p : ℕ} {l st : List Cell} {hs : List Handler} {below : List Frame} → LuciaTop (lucia c p l st hs ∷ below)
 
--- An action of a step that can go on in its slice leaves the running frame on top.
+-- An action of a step that can go on in its slice leaves the running frame on top; no step clears.
 abbrev pub StaysOn : Action → Type 0
 StaysOn (goes F) = LuciaTop F
 StaysOn (jumps F) = LuciaTop F
@@ -133,7 +133,7 @@ StaysOn (calls f args F) = Unit {0}
 StaysOn (performs e args F) = Unit {0}
 StaysOn (throws x F) = Unit {0}
 StaysOn (returns v F) = Unit {0}
-StaysOn clears = Unit {0}
+StaysOn clears = ⊥
 
 -- The action taken is accepted: 16 handlers at most, and what it leaves fits.
 pub record Accepted (P : Program) (z : Sizes) (t : Taken) (d : Action) (m after : M) : Type 0 where

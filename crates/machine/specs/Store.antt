@@ -10,11 +10,16 @@ use borrow.Author.Tests.{eqb-true, ltb-false, ne-eqb, le-ltb}
 use Rattle.image.specs.Records.{if?}
 use Rattle.machine.specs.Machine.{Object, closure, list, continuation, cost, used, here, absent, objectAt}
 
-cost-some : (o : Object) → 0 < cost o
+pub cost-some : (o : Object) → 0 < cost o
 unfolding cost
 cost-some (closure c us) = omega arith
 cost-some (list vs) = omega arith
 cost-some (continuation K) = omega arith
+
+pub used-append : (s t : List Object) → used (s ++ t) ≡ used s + used t
+unfolding used
+used-append [] t = omega arith
+used-append (o ∷ s) t = omega (arith, used-append s t)
 
 -- The only object of a store stands at 0.
 pub at-one : (x o : Object) (k : ℕ) → objectAt (x ∷ []) k ≡ here o → (k ≡ 0) × (x ≡ o)

@@ -108,7 +108,7 @@ fn rest(s: &[u8], at: usize) -> &[u8]
 }
 
 // The n bytes at a place, as many of them as are there.
-fn part(s: &[u8], at: usize, n: usize) -> &[u8]
+pub fn part(s: &[u8], at: usize, n: usize) -> &[u8]
     ensures { λ r. ⌜ now r ≡ part (now (s .entry)) at n ⌝ }
 {
     if at >= s.len() {
@@ -536,6 +536,14 @@ pub extern "C" fn lucia_refusal(image: &[u8]) -> u32
     refusal(image)
 }
 
+// Number i of the row of code k: 1 opcodes, 3 globals, 5 captures, 7 constants, 9 codes are counts.
+pub fn field(rows: &[u32], k: usize, i: usize) -> usize
+    requires { ⌜ (k < 4294967296) × (i < 10) ⌝ }
+    ensures { λ r. ⌜ (r ≡ field (now (rows .entry)) k i) × (r < 4294967296) ⌝ }
+{
+    entry(rows, 10 * k + i)
+}
+
 // The parameter count of code k.
 pub fn params(image: &[u8], rows: &[u32], k: usize) -> u16
     requires { ⌜ k < 4294967296 ⌝ }
@@ -615,6 +623,13 @@ pub fn content(image: &[u8], c: Constant) -> &[u8]
     ensures { λ r. ⌜ now r ≡ part (now (image .entry)) (c .place) (c .size) ⌝ }
 {
     part(image, c.place, c.size)
+}
+
+// The number of an effect by its body: a builtin, or 3 for one that the image declares.
+pub fn effect_number(body: &[u8]) -> u16
+    ensures { λ r. ⌜ r ≡ leAt 2 (now (body .entry)) 0 ⌝ }
+{
+    le16(body, 0)
 }
 
 // The name of an effect that is no builtin, as a part of its body.

@@ -1,0 +1,1 @@
+// Memory: how a state block, a live stack and a store hold a world.
