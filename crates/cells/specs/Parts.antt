@@ -67,6 +67,14 @@ part-end s b = take-all (length s - b) (drop b s) (simp length-drop (omega arith
 pub cells-part : (s : List ℕ) (a n : ℕ) → a + n ≤ room s → cells (take (16 * n) (drop (16 * a) s)) ≡ take n (drop a (cells s))
 cells-part s a n h = cells-front (drop (16 * a) s) n (simp length-drop (omega arith)) ∙ ap (take n) (cells-end s a (omega arith))
 
+-- what it lends as `s[..16 * n]`, or all of a slice that is shorter
+pub cells-lent : (s : List ℕ) (n : ℕ) → cells (take (16 * n) s) ≡ take n (cells s)
+cells-lent s n = by (decLt (room s) n)
+  where
+    by : Dec (room s < n) → cells (take (16 * n) s) ≡ take n (cells s)
+    by (yes h) = ap cells (take-all (16 * n) s (omega arith)) ∙ sym (take-all n (cells s) (omega (arith, length-cells s)))
+    by (no h) = cells-front s n (omega arith)
+
 -- a lent part comes back: from the front, to the end, from the middle
 module _ (s t : List ℕ) (l : List Cell) where
   pub writes-front : (n : ℕ) → n ≤ room s → Writes (take (16 * n) s) l t → Writes s (l ++ drop n (cells s)) (t ++ drop (16 * n) s)

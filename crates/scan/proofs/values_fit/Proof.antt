@@ -1,0 +1,31 @@
+-- `scan::values_fit` meets its contract. Assumes nothing.
+use borrow.Author.Needs.{needs}
+use Prim.Native.Nat.{_-_}
+use Rattle.cells.specs.Cells.{cells}
+use Rattle.memory.specs.Tests.{valueFits}
+use Rattle.scan.specs.Tables.{programIn}
+use Rattle.scan.specs.Passed.{Passed, passed-none, passed-not, passed-more, passed-all}
+use Rattle.scan.proofs.values_fit.Statement.{statement}
+use Rattle.scan.proofs.values_fit.Tie as tie
+
+abbrev Inv-loop : tie.InvT-loop
+Inv-loop image rows constants inner codes store below x from n i₀ i = Passed (valueFits (programIn image rows constants inner codes) (cells store) below) x from n i
+
+abbrev μ-loop : tie.MeasureT-loop
+μ-loop image rows constants inner codes store below x from n i₀ i = n - i
+
+pub values-fit-spec : {M : Type 1} → statement M
+values-fit-spec =
+    tie.close
+    (tie.spec
+    Inv-loop
+    μ-loop
+    (λ c. passed-none _ _ _ _)
+    (λ c. search needs)
+    (λ c κs. search needs)
+    (λ c κs. search needs)
+    (λ c. search passed-not)
+    (λ c. search needs)
+    (λ c. search needs)
+    (λ c. search passed-more)
+    (λ c. search passed-all))
