@@ -4,6 +4,8 @@ use mathlib.Core.Bool.{Bool, xor}
 use Prim.Native.Nat.{ℕ, _+_}
 use lib.IntN.{ℤ}
 use lib.ListN.{length}
+use lib.Dec.{eqb}
+use Rattle.cells.specs.Cells.{null}
 use Rattle.cells.specs.Le.{leAt}
 use Rattle.cells.specs.declared.Cell.{Cell}
 use Rattle.utf8.specs.Utf8.{starts, char, octets}
@@ -14,10 +16,10 @@ use Rattle.image.specs.Records.{if?, both, Answer, refused, accepted, whole, li
 use Rattle.image.specs.Program.{tab, all, operandKind, lastFine, countsFine, codeFine, programFine, captureFine, constantFine, effectFine}
 use Rattle.image.specs.Image.{parse, readBy, readInner, innerFrom, own, constants?, constantsFrom, constant, sized, refusal}
 use Rattle.image.specs.Effects.{same, sameEffect}
-use Rattle.machine.specs.Values.{Program, isNull, equalEffects, effectParams, matchEffectHandler, equal, thrown, shown, divides, unary, ofInts, binary}
+use Rattle.machine.specs.Values.{Program, equalEffects, effectParams, matchEffectHandler, equal, thrown, shown, divides, unary, ofInts, binary}
 use Rattle.machine.specs.Machine.{Handler, Frame, Object, Result, frameCost, framesCost, cost, used, resultCost, objectAt, checkArgs, holds, effects, targetOf, handlersOf, under, find, search, enter, capture, performBy, throwError, performEffect, closureFunction, continuationFunction, functionOf, parse as parseArguments, give, putBack, resume, callClosure, callFunction, receive, returnValue}
 use Rattle.machine.specs.Opcodes.{doing, withTop, withTwo, computed, constantValue, loadConst, loadGlobal, operandsOf, callable, callTaken, buildList, popJump, jumpOrPop, registered, registerHandler, checkEffect, opcodeAction, closureAction, nextAction}
-use Rattle.machine.specs.Calls.{Sizes, topHandlers, handlersLeft, judge, outcome, World, Given, Trace, stepsOf, answerOf, givenOf, fuelAfter, worldAfter, turnOf, paceOf, charge, goesOn, noTicks, tick, run, isClosureAt, isListAt, isContinuationAt, isConstant, isValue, areValues, areEffects, isFunction, fit, without, distinct, answerAction, answered, idle, requestAction, requestWorld, lineOf, ofPage, givenBy, endOf, fuelOf, asked, loadedMachine, loaded, loadOf, programOf, load, Call, loadTrace, callOf}
+use Rattle.machine.specs.Calls.{Sizes, topHandlers, handlersLeft, judge, outcome, World, world, Given, Trace, stepsOf, answerOf, givenOf, fuelAfter, worldAfter, turnOf, paceOf, charge, goesOn, noTicks, tick, run, isClosureAt, isListAt, isContinuationAt, isConstant, isValue, areValues, areEffects, isFunction, fit, without, distinct, answerAction, answered, idle, requestAction, requestWorld, lineOf, ofPage, givenBy, endOf, fuelOf, asked, loadedMachine, loaded, loadOf, programOf, load, Call, loadTrace, callOf}
 
 -- a global or builtin that is not null
 pub record Named : Type 0 where
@@ -55,7 +57,12 @@ leaves n t f g F r s gs bs b left = record { code = n; ticks = t; fuel = f; give
 
 abbrev namesFrom : ℕ → List Cell → List Named
 namesFrom n [] = []
-namesFrom n (v ∷ vs) = let rest = namesFrom (n + 1) vs in if? (isNull v) rest (named n v ∷ rest)
+namesFrom n (v ∷ vs) = let rest = namesFrom (n + 1) vs in if? (eqb (v .tag + v .number + v .payload) 0) rest (named n v ∷ rest)
+
+-- the value of this name: null if it is not among them
+abbrev valueOf : List Named → ℕ → Cell
+valueOf [] n = null
+valueOf (x ∷ xs) n = if? (eqb (x .name) n) (x .value) (valueOf xs n)
 
 abbrev leftBy : Trace → Left
 leftBy t =
@@ -63,13 +70,19 @@ leftBy t =
     let m = w .machine in
     leaves (answerOf t) (length (stepsOf t)) (fuelAfter t) (givenOf t) (m .frames) (m .result) (m .store) (namesFrom 0 (m .globals)) (namesFrom 0 (m .builtins)) (w .wait) (w .slice)
 
+-- the world that was left, for the calls after it
+abbrev pub worldOf : Left → World
+worldOf l =
+    world (record { frames = l .frames; store = l .store; globals = tab 256 (valueOf (l .globals)); builtins = tab 256 (valueOf (l .builtins)); result = l .result })
+    (l .wait) (l .slice)
+
 -- what each of the calls leaves
-abbrev seen : Program → Sizes → List Call → World → List Left
+abbrev pub seen : Program → Sizes → List Call → World → List Left
 seen P z [] w = []
 seen P z (c ∷ cs) w = let t = callOf P z c w in leftBy t ∷ seen P z cs (worldAfter t)
 
 -- the same of a load and the calls after it
-abbrev seenBy : Sizes → List Call → Answer Program → Answer (List Left)
+abbrev pub seenBy : Sizes → List Call → Answer Program → Answer (List Left)
 seenBy z cs (refused n) = refused n
 seenBy z cs (accepted P) = let t = loadTrace (loaded P) (accepted P) in accepted (leftBy t ∷ seen P z cs (worldAfter t))
 

@@ -89,7 +89,7 @@ module _ (image rows constants inner : List ℕ) (codes : ℕ) where
       holds : isConstant (programIn image rows constants inner codes) kind v ≡ true
       holds = sym is ∙ not-false t f
 
-      constant-code : v .number < codes
+      pub constant-code : v .number < codes
       constant-code = by (decLt (v .number) codes)
         where
           by : Dec (v .number < codes) → v .number < codes

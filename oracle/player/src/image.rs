@@ -184,6 +184,12 @@ pub fn parse(image: &[u8]) -> Result<Program, u32> {
     codes.map(|codes| Program { codes }).ok_or(refusal::NUMBER)
 }
 
+/// Kind and body of each code's constants, of an accepted image.
+pub fn constants(image: &[u8]) -> Vec<Vec<(u16, Part)>> {
+    let codes = structure(image).expect("the image is accepted");
+    codes.into_iter().map(|code| code.constants).collect()
+}
+
 /// A code whose records have the right kinds and sizes; its numbers are not tested yet.
 struct RawCode {
     /// Parameter count, variadic, locals, `stack_size`.

@@ -1,40 +1,57 @@
 //! Lists of calls with what they left, as equations in antt, which the checker
 //! computes from the definitions of crate `machine` (specs/Seen.antt).
 
-use std::{collections::BTreeMap, rc::Rc};
+use std::{
+    collections::{BTreeMap, BTreeSet},
+    fmt::Display,
+};
 
 use crate::{
-    call::{Answer, Call, LIVE_CELLS, Lent, Loans, Machine, STATE_LENGTH, STORE_CELLS, kind},
+    call::{Answer, Call, LIVE_CELLS, Lent, Loans, Machine, STATE_LENGTH, STORE_CELLS, code, kind},
     cell::Cell,
     driver::Driver,
     generate,
+    image::{self, Code, MAX_BYTES, Part},
     snapshot::{Fault, Frame, FrameKind, Handler, Object, Outcome, Snapshot},
     step::{After, Step},
 };
 
-/// What a row may hold, so that it is soon computed.
-const MOST_TICKS: u32 = 2_000;
-const MOST_BYTES: usize = 4_000;
-/// The most ticks of one run of a random list.
-const RUN_TICKS: u32 = 150;
+/// After so many ticks a row ends and the list goes on in the next, and a longer run of a random list is several runs: the checker takes only so many steps
+/// for one equation.
+const MOST_TICKS: u32 = 1_000;
+/// To read a longer image takes too many steps, unless it is over the limit of all images.
+const MOST_BYTES: usize = 11_000;
+
+const LONG: &str = "a load of a long image";
+
+fn is_long(image: &[u8]) -> bool {
+    (MOST_BYTES + 1..=MAX_BYTES).contains(&image.len())
+}
 
 /// Rows as text, and how many calls were left out and why.
 #[derive(Default)]
 pub struct Rows {
     text: String,
+    lists: usize,
+    loads: usize,
     rows: usize,
     calls: usize,
     ticks: u32,
+    /// Equations of refused loads, each written once.
+    refusals: BTreeSet<(String, u32)>,
     left_out: BTreeMap<&'static str, usize>,
 }
 
-/// A row in the making: an accepted load and the calls after it, up to the next one.
+/// A row in the making: calls after an accepted load, up to the next one.
 struct Row {
-    image: Rc<[u8]>,
-    loans: Loans,
-    /// The calls after the load.
+    /// The number of the load.
+    load: usize,
+    sizes: String,
+    /// What the last call of the row before left, if this one does not begin with the load.
+    before: Option<String>,
+    /// The calls, without the load.
     calls: Vec<String>,
-    /// What each call left, the load first.
+    /// What each call left, and the load if the row begins with it.
     left: Vec<String>,
     ticks: u32,
 }
@@ -51,57 +68,95 @@ impl Rows {
     pub fn list(&mut self, name: &str, list: &[(Step, After)]) {
         let lent = list.iter().map(|(step, _)| step.loans).find(|loans| loans.state == STATE_LENGTH);
         let mut row: Option<Row> = None;
+        self.lists += 1;
+        self.text.push_str(&format!("-- {name}\n"));
         for (step, after) in list {
             let Answer { code, ticks, .. } = after.answer;
-            let ticks_before = row.as_ref().map_or(0, |row| row.ticks);
             let call = match call_term(step).filter(|_| lent.map(room) == Some(room(step.loans))) {
                 _ if matches!(code, 6 | 7 | 10) => Err("refused with 6, 7 or 10"),
                 _ if step.call != Call::Load && (1..=4).contains(&code) => Err("lent a refused image"),
-                _ if step.image.len() > MOST_BYTES => Err("lent a long image"),
-                _ if ticks_before + ticks > MOST_TICKS => Err("after too many ticks"),
+                _ if step.call == Call::Load && code != 0 && is_long(&step.image) => Err(LONG),
                 None => Err("lent other memory, or an answer or list of no form"),
                 Some(_) if row.is_none() && step.call != Call::Load => Err("after a call left out"),
                 Some(call) => Ok(call),
             };
-            match (call, &mut row) {
-                (Err(why), _) => {
+            row = match (call, row) {
+                (Err(why), row) => {
                     *self.left_out.entry(why).or_default() += 1;
-                    if code == 0 || code >= 100 || ticks > 0 {
-                        self.end(name, row.take());
-                    }
+                    let changed = code == 0 || code >= 100 || ticks > 0;
+                    if changed { self.end(row) } else { row }
                 }
-                (Ok(_), _) if step.call == Call::Load && code == 0 => {
-                    let started = Row::new(step, after);
-                    self.end(name, row.replace(started));
+                (Ok(_), row) if step.call == Call::Load && code == 0 => {
+                    self.end(row);
+                    Some(self.begin(step, after))
                 }
-                (Ok(_), None) => self.refused(name, step, code),
-                (Ok(call), Some(row)) => row.add(call, step, after),
+                (Ok(_), None) => self.refused(step, code),
+                (Ok(call), Some(row)) => Some(self.add(row, call, step, after)),
             }
         }
-        self.end(name, row);
+        self.end(row);
     }
 
-    fn end(&mut self, name: &str, row: Option<Row>) {
-        let Some(Row { image, loans, calls, left, ticks }) = row else { return };
-        let n = self.rows;
-        let image = bytes(&image);
+    fn equation(&mut self, name: &str, left: &str, right: &str) {
+        self.text.push_str(&format!("{name} : {left} ≡ {right}\nunfolding every-rule\n{name} = refl\n\n"));
+    }
+
+    /// The equation of an accepted load, and the row that begins with its program.
+    fn begin(&mut self, step: &Step, after: &After) -> Row {
+        let (n, sizes) = (self.loads, sizes(step.loans));
+        let (bytes, codes) = (bytes(&step.image), codes(&step.image));
+        self.text.push_str(&format!("abbrev image{n} : List ℕ\nimage{n} = {bytes}\n\n"));
+        self.text.push_str(&format!("abbrev program{n} : Program\nprogram{n} = program image{n} ({codes})\n\n"));
+        self.loads += 1;
+        if is_long(&step.image) {
+            *self.left_out.entry(LONG).or_default() += 1;
+        } else {
+            self.equation(&format!("load{n}"), &format!("load image{n} {sizes}"), &format!("accepted program{n}"));
+            self.calls += 1;
+        }
+        Row { load: n, sizes, before: None, calls: Vec::new(), left: vec![left_term(step, after)], ticks: 0 }
+    }
+
+    /// The row with one more call, or the next one if that made it long.
+    fn add(&mut self, mut row: Row, call: String, step: &Step, after: &After) -> Row {
+        let left = left_term(step, after);
+        row.calls.push(call);
+        row.left.push(left.clone());
+        row.ticks += after.answer.ticks;
+        if row.ticks < MOST_TICKS {
+            return row;
+        }
+        let (load, sizes) = (row.load, row.sizes.clone());
+        self.end(Some(row));
+        Row { load, sizes, before: Some(left), calls: Vec::new(), left: Vec::new(), ticks: 0 }
+    }
+
+    fn end(&mut self, row: Option<Row>) -> Option<Row> {
+        let Row { load, sizes, before, calls, left, ticks } = row.filter(|row| !row.left.is_empty())?;
+        let list = list_of(&calls);
         let left: String = left.iter().map(|left| format!("    {left} ∷\n")).collect();
-        self.text.push_str(&format!("-- {name}\nabbrev image{n} : List ℕ\nimage{n} = {image}\n\n"));
-        self.text.push_str(&format!("row{n} : sees image{n} ({}) ({}) ≡ accepted (\n", sizes(loans), list_of(&calls)));
-        self.text.push_str(&format!("{left}    [])\nunfolding every-rule\nrow{n} = refl\n\n"));
+        let (seen, left) = match before {
+            None => (format!("seenBy {sizes} ({list}) (accepted program{load})"), format!("accepted (\n{left}    [])")),
+            Some(before) => {
+                (format!("seen program{load} {sizes} ({list}) (worldOf ({before}))"), format!("\n{left}    []"))
+            }
+        };
+        self.equation(&format!("row{}", self.rows), &seen, &left);
         self.rows += 1;
-        self.calls += 1 + calls.len();
+        self.calls += calls.len();
         self.ticks += ticks;
+        None
     }
 
     /// A load that is refused where nothing was loaded.
-    fn refused(&mut self, name: &str, step: &Step, code: u32) {
-        let n = self.rows;
-        let (image, sizes) = (bytes(&step.image), sizes(step.loans));
-        self.text.push_str(&format!("-- {name}\nrow{n} : sees ({image}) ({sizes}) [] ≡ refused {code}\n"));
-        self.text.push_str(&format!("unfolding every-rule\nrow{n} = refl\n\n"));
-        self.rows += 1;
+    fn refused(&mut self, step: &Step, code: u32) -> Option<Row> {
+        let load = format!("load ({}) {}", bytes(&step.image), sizes(step.loans));
         self.calls += 1;
+        if self.refusals.insert((load.clone(), code)) {
+            self.equation(&format!("row{}", self.rows), &load, &format!("refused {code}"));
+            self.rows += 1;
+        }
+        None
     }
 
     pub fn text(&self) -> String {
@@ -110,22 +165,10 @@ impl Rows {
 
     /// How many rows there are, and what was left out.
     pub fn tally(&self) -> String {
-        let mut text = format!("{} rows, {} calls, {} ticks", self.rows, self.calls, self.ticks);
+        let Rows { lists, rows, calls, ticks, .. } = self;
+        let mut text = format!("{lists} lists, {rows} rows, {calls} calls, {ticks} ticks");
         self.left_out.iter().for_each(|(why, times)| text.push_str(&format!("; {times} left out: {why}")));
         text
-    }
-}
-
-impl Row {
-    fn new(step: &Step, after: &After) -> Row {
-        let left = vec![left_term(step, after)];
-        Row { image: Rc::clone(&step.image), loans: step.loans, calls: Vec::new(), left, ticks: 0 }
-    }
-
-    fn add(&mut self, call: String, step: &Step, after: &After) {
-        self.calls.push(call);
-        self.left.push(left_term(step, after));
-        self.ticks += after.answer.ticks;
     }
 }
 
@@ -136,21 +179,59 @@ use mathlib.Core.Bool.{true, false}
 use Prim.Native.Nat.{ℕ}
 use lib.IntN.{pos, negsuc}
 use Rattle.fuel.specs.Fuels.{empty}
+use Rattle.image.specs.Program.{Code}
 use Rattle.image.specs.Records.{refused, accepted}
-use Rattle.machine.specs.Values.{cell, callArguments, unOperator, binOperator, metaUnOperator, metaBinOperator, zeroDivisor, luciaError, luciaPanic}
+use Rattle.image.specs.declared.Capture.{Capture}
+use Rattle.image.specs.declared.Constant.{Constant}
+use Rattle.image.specs.declared.Op.{Op}
+use Rattle.machine.specs.Values.{Program, cell, callArguments, unOperator, binOperator, metaUnOperator, metaBinOperator, zeroDivisor, luciaError, luciaPanic}
 use Rattle.machine.specs.Machine.{lucia, host, effectCallback, closure, list, continuation, running, returned, failed, unhandled}
-use Rattle.machine.specs.Calls.{runs, asks, loads, start, answer, clear, text, bytes, setGlobal, getGlobal, setBuiltin, getBuiltin, callWith, perform, tailCall, tailPerform, returnIt, errorWith, panicWith, nothing, gives, part}
-use Rattle.machine.specs.Seen.{sees, leaves, sizes, fuelWith, handler, named, every-rule}
+use Rattle.machine.specs.Calls.{runs, asks, loads, start, answer, clear, text, bytes, setGlobal, getGlobal, setBuiltin, getBuiltin, callWith, perform, tailCall, tailPerform, returnIt, errorWith, panicWith, nothing, gives, part, load}
+use Rattle.machine.specs.Seen.{seen, seenBy, leaves, worldOf, sizes, fuelWith, handler, named, every-rule}
+
+abbrev op : ℕ → ℕ → Op
+op n x = record { number = n; operand = x }
+
+abbrev captured : ℕ → ℕ → Capture
+captured f i = record { from = f; index = i }
+
+abbrev constant : ℕ → ℕ → ℕ → Constant
+constant k p n = record { kind = k; place = p; size = n }
+
+abbrev code : ℕ → ℕ → ℕ → ℕ → List Op → List ℕ → List Capture → List Constant → List ℕ → Code
+code p v l s os gs us ks cs = record { params = p; variadic = v; locals = l; stackSize = s; opcodes = os; globals = gs; captures = us; constants = ks; codes = cs }
+
+abbrev program : List ℕ → List Code → Program
+program s cs = record { image = s; codes = cs }
 ";
 
-fn list_of(items: &[String]) -> String {
-    let mut text: String = items.iter().map(|item| format!("{item} ∷ ")).collect();
+fn list_of<T: Display>(items: impl IntoIterator<Item = T>) -> String {
+    let mut text: String = items.into_iter().map(|item| format!("{item} ∷ ")).collect();
     text.push_str("[]");
     text
 }
 
 fn bytes(bytes: &[u8]) -> String {
-    list_of(&bytes.iter().map(u8::to_string).collect::<Vec<_>>())
+    list_of(bytes)
+}
+
+/// The codes of an accepted image.
+fn codes(image: &[u8]) -> String {
+    let program = image::parse(image).expect("the image is accepted");
+    let constants = image::constants(image);
+    list_of(program.codes.iter().zip(&constants).map(|(code, constants)| code_term(code, constants)))
+}
+
+fn code_term(code: &Code, constants: &[(u16, Part)]) -> String {
+    let Code { params, variadic, locals, stack_size, opcodes, globals, captures, const_codes, .. } = code;
+    let opcodes = list_of(opcodes.iter().map(|(number, operand)| format!("op {number} {operand}")));
+    let captures = list_of(captures.iter().map(|(from, index)| format!("captured {from} {index}")));
+    let constants =
+        list_of(constants.iter().map(|(kind, part)| format!("constant {kind} {} {}", part.start, part.len)));
+    let (variadic, globals, codes) = (u8::from(*variadic), list_of(globals), list_of(const_codes));
+    format!(
+        "code {params} {variadic} {locals} {stack_size} ({opcodes}) ({globals}) ({captures}) ({constants}) ({codes})"
+    )
 }
 
 /// Cells of live stack and store that are used.
@@ -160,7 +241,7 @@ fn room(loans: Loans) -> (usize, usize) {
 
 fn sizes(loans: Loans) -> String {
     let (live, store) = room(loans);
-    format!("sizes {live} {store}")
+    format!("(sizes {live} {store})")
 }
 
 fn cell(cell: Cell) -> String {
@@ -168,7 +249,7 @@ fn cell(cell: Cell) -> String {
 }
 
 fn cells(cells: &[Cell]) -> String {
-    format!("({})", list_of(&cells.iter().map(|&value| cell(value)).collect::<Vec<_>>()))
+    format!("({})", list_of(cells.iter().map(|&value| cell(value))))
 }
 
 /// Of a stack, whose top is written first.
@@ -241,7 +322,7 @@ fn left_term(step: &Step, after: &After) -> String {
         _ => "nothing".into(),
     };
     let Snapshot { frames, result, wait, left, store, globals, builtins, .. } = &after.snapshot;
-    let objects = list_of(&store.iter().map(object).collect::<Vec<_>>());
+    let objects = list_of(store.iter().map(object));
     let (globals, builtins) = (names(globals), names(builtins));
     let result = outcome(result);
     format!(
@@ -251,7 +332,7 @@ fn left_term(step: &Step, after: &After) -> String {
 }
 
 fn frame_list(frames: &[Frame]) -> String {
-    list_of(&frames.iter().rev().map(frame).collect::<Vec<_>>())
+    list_of(frames.iter().rev().map(frame))
 }
 
 fn frame(frame: &Frame) -> String {
@@ -260,7 +341,7 @@ fn frame(frame: &Frame) -> String {
     let effects = cells(&handlers.iter().map(|handler| handler.effect).collect::<Vec<_>>());
     match kind {
         FrameKind::Lucia { closure, place } => {
-            let handlers = list_of(&handlers.iter().map(handler).collect::<Vec<_>>());
+            let handlers = list_of(handlers.iter().map(handler));
             format!("lucia {closure} {place} {} {values} ({handlers})", cells(locals))
         }
         FrameKind::Host { number, word } => format!("host {number} {word} {values} {effects}"),
@@ -308,10 +389,10 @@ fn object(object: &Object) -> String {
 /// Globals or builtins that are not null.
 fn names(values: &[Cell]) -> String {
     let set = values.iter().enumerate().filter(|(_, value)| **value != Cell::NULL);
-    list_of(&set.map(|(number, value)| format!("named {number} ({})", cell(*value))).collect::<Vec<_>>())
+    list_of(set.map(|(number, value)| format!("named {number} ({})", cell(*value))))
 }
 
-/// A driver that is lent the same memory for each call, is given few ticks, and keeps its steps.
+/// A driver that is lent the same memory for each call, plays a long run as several, and keeps its steps.
 #[derive(Default)]
 struct Constant {
     driver: Driver,
@@ -319,19 +400,31 @@ struct Constant {
     list: Vec<(Step, After)>,
 }
 
-impl Machine for Constant {
-    fn call(&mut self, lent: Lent<'_>, call: &Call) -> Answer {
+impl Constant {
+    fn play(&mut self, lent: &mut Lent<'_>, call: Call) -> Answer {
         let loans = *self.loans.get_or_insert(Loans { state: STATE_LENGTH, ..lent.loans });
-        let call = match call {
-            Call::Run { ticks } => Call::Run { ticks: (*ticks).min(RUN_TICKS) },
-            call => call.clone(),
-        };
-        let step = Step { image: lent.image.into(), loans, fuel: lent.fuel.to_vec(), page: lent.page.into(), call };
+        let (fuel, page) = (lent.fuel.to_vec(), lent.page.into());
+        let step = Step { image: lent.image.into(), loans, fuel, page, call };
         let after = step.play(&mut self.driver);
         lent.fuel.copy_from_slice(&after.fuel);
         let answer = after.answer;
         self.list.push((step, after));
         answer
+    }
+}
+
+impl Machine for Constant {
+    fn call(&mut self, mut lent: Lent<'_>, call: &Call) -> Answer {
+        let Call::Run { ticks } = *call else { return self.play(&mut lent, call.clone()) };
+        let mut taken = 0;
+        loop {
+            let part = MOST_TICKS.min(ticks - taken);
+            let answer = self.play(&mut lent, Call::Run { ticks: part });
+            taken += answer.ticks;
+            if answer.code != code::PAUSED || taken == ticks {
+                return Answer { ticks: taken, ..answer };
+            }
+        }
     }
 
     fn snapshot(&self) -> Snapshot {
@@ -342,7 +435,7 @@ impl Machine for Constant {
 #[cfg(test)]
 mod tests {
     use super::*;
-    use crate::case;
+    use crate::{assemble::assemble, case, cell::tag, step::fuel_bytes};
 
     fn rows(lines: &str) -> Rows {
         let text =
@@ -359,21 +452,46 @@ mod tests {
     #[test]
     fn a_list_is_a_row() {
         let rows = rows("start closure @0\nrun 100");
-        assert_eq!(rows.tally(), "1 rows, 3 calls, 2 ticks");
+        assert_eq!(rows.tally(), "1 lists, 1 rows, 3 calls, 2 ticks");
         let last = "leaves 100 2 (fuelWith (pos 1) false) nothing ([]) (returned (cell 0 0 0)) (closure 0 ([]) ∷ []) ([]) ([]) false 64 ∷";
         assert!(rows.text().contains(last), "{}", rows.text());
+    }
+
+    #[test]
+    fn a_long_list_is_several_rows() {
+        let rows = rows("image { code main() { Jump 0 } }\nload\nstart closure @0\nrun 1000\nrun 1");
+        assert_eq!(rows.tally(), "1 lists, 3 rows, 5 calls, 1001 ticks");
+        assert!(rows.text().contains("(runs 1 (fuelWith (pos 68) false) ∷ []) (worldOf (leaves 102 1000 "));
+    }
+
+    #[test]
+    fn a_long_run_is_several_runs() {
+        let mut machine = Constant::default();
+        let image = assemble("code main() { Jump 0 }").unwrap_or_else(|error| panic!("{error}"));
+        let mut fuel = fuel_bytes(68, 0);
+        let start = Call::Start { function: Cell::new(tag::CLOSURE, 0, 0), args: Vec::new() };
+        let answers = [Call::Load, start, Call::Run { ticks: 2_500 }].map(|call| {
+            let lent = Lent { image: &image, loans: Loans::default(), fuel: &mut fuel, page: &[] };
+            machine.call(lent, &call)
+        });
+        assert_eq!(answers[2], Answer { ticks: 2_500, ..Answer::of(code::PAUSED) });
+        let ticks: Vec<u32> = machine.list.iter().map(|(_, after)| after.answer.ticks).collect();
+        assert_eq!(ticks, [0, 0, 1_000, 1_000, 500]);
     }
 
     #[test]
     fn what_the_definitions_do_not_have_is_left_out() {
         let form = "lent other memory, or an answer or list of no form";
         let tally = |lines: &str| rows(lines).tally();
-        assert_eq!(tally("answer kind 9 null\nrun 1"), format!("1 rows, 2 calls, 0 ticks; 1 left out: {form}"));
+        assert_eq!(
+            tally("answer kind 9 null\nrun 1"),
+            format!("1 lists, 1 rows, 2 calls, 0 ticks; 1 left out: {form}")
+        );
         assert_eq!(
             tally("loans state bytes 1\nrun 1"),
-            "1 rows, 1 calls, 0 ticks; 1 left out: refused with 6, 7 or 10"
+            "1 lists, 1 rows, 1 calls, 0 ticks; 1 left out: refused with 6, 7 or 10"
         );
-        let after = "1 rows, 1 calls, 0 ticks; 1 left out: after a call left out; 1 left out: ";
+        let after = "1 lists, 1 rows, 1 calls, 0 ticks; 1 left out: after a call left out; 1 left out: ";
         assert_eq!(tally("loans live 9\nstart closure @0\nloans live 4096\nrun 1"), format!("{after}{form}"));
     }
 }

@@ -1,0 +1,43 @@
+-- `executor::lucia_clear` meets its contract. Assumes nothing.
+use Rattle.executor.specs.Inner.{clear-not, clear-in}
+use Rattle.executor.specs.Inner.{formed-size}
+use borrow.Author.Needs.{needs}
+use Rattle.executor.proofs.lucia_clear.Statement.{statement}
+use Rattle.executor.proofs.lucia_clear.Tie as tie
+
+entered-requires : tie.Need-entered-requires
+entered-requires c κs = search needs
+
+enum-known-n : tie.Need-enum-known-n
+enum-known-n c = search needs
+
+enum-told : tie.Need-enum-told
+enum-told c = search needs
+
+cleared-requires : tie.Need-cleared-requires
+cleared-requires c κs = search formed-size
+
+same-length : tie.Need-same-length
+same-length c = search needs
+
+returns : tie.Need-returns
+returns c = search (clear-not, clear-in)
+
+same-length-2 : tie.Need-same-length-2
+same-length-2 c = search needs
+
+returns-2 : tie.Need-returns-2
+returns-2 c = search (clear-not, clear-in)
+
+pub lucia-clear-spec : {M : Type 1} → statement M
+lucia-clear-spec =
+    tie.close
+    (tie.spec
+    entered-requires
+    enum-known-n
+    enum-told
+    cleared-requires
+    same-length
+    returns
+    same-length-2
+    returns-2)

@@ -1,0 +1,17 @@
+-- `executor::lucia_text` meets its contract. Assumes nothing.
+use Rattle.executor.specs.Answers.{text-given}
+use borrow.Author.Needs.{needs}
+use Rattle.executor.proofs.lucia_text.Statement.{statement}
+use Rattle.executor.proofs.lucia_text.Tie as tie
+
+cell-of-requires : tie.Need-cell-of-requires
+cell-of-requires c κs = search needs
+
+text-part-requires : tie.Need-text-part-requires
+text-part-requires c κs = search needs
+
+returns : tie.Need-returns
+returns c = search text-given
+
+pub lucia-text-spec : {M : Type 1} → statement M
+lucia-text-spec = tie.close (tie.spec cell-of-requires text-part-requires returns)

@@ -1,0 +1,13 @@
+-- `moves::new_object` meets its contract. Assumes nothing.
+use Rattle.moves.specs.Objects.{makes}
+use borrow.Author.Needs.{needs}
+use Rattle.moves.proofs.new_object.Statement.{statement}
+use Rattle.moves.proofs.new_object.Tie as tie
+
+returns : tie.Need-returns
+returns c = search makes
+
+pub new-object-spec : {M : Type 1} → statement M
+new-object-spec =
+    tie.close
+    (tie.spec (λ c κs. search needs) (λ c. search needs) (λ c κs. search needs) (λ c. search needs) returns)

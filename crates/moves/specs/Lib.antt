@@ -1,0 +1,5 @@
+-- The moves of the live stack and the store: the frame at the top, its handlers, frames of any kind, objects.
+pub mod Runs
+pub mod Handlers
+pub mod Frames
+pub mod Objects
