@@ -1,10 +1,9 @@
 -- What the inner functions do to cells is what the machine's definitions say of the world that memory holds.
 use mathlib.Core.Path.{_≡_, refl, sym, ap, _∙_}
-use mathlib.Core.List.{List, [], _∷_, _++_}
+use mathlib.Core.List.{List, [], _++_}
 use mathlib.Core.Bool.{Bool, true, false}
 use Prim.Native.Nat.{ℕ, _+_, _<_}
 use native.Mathlib.Omega.{arith}
-use native.Mathlib.Nat.{zero-add, suc-add}
 use lib.ListN.{length, getD, set, List·getD-append}
 use lib.Seq.{getD-append-add, set-append-left}
 use lib.Dec.{eqb, ltb}
@@ -23,6 +22,7 @@ use Rattle.machine.specs.Calls.{world, Given, nothing, isValue, Request, clear,
 use Rattle.machine.specs.Form.{WorldFits}
 use Rattle.memory.specs.Layout.{Holds, stateHead, stateCells, resultShown, flat}
 use Rattle.memory.specs.Tests.{valueFits, inForm}
+use Rattle.memory.specs.Lists.{set-append-add}
 use Rattle.memory.specs.FrameLaws.{value-is}
 use Rattle.memory.specs.StoreLaws.{reads}
 use Rattle.memory.specs.Exact.{exact-in}
@@ -32,10 +32,6 @@ use Rattle.executor.specs.Requests.{Plain, answers, gives, leaves, get-g
 use Rattle.executor.specs.Steps.{usedIn, exists, reading, Writing, Setting, cleared, Clearing, textGiven, texting, byting}
 use Rattle.executor.specs.declared.Got.{Got}
 use Rattle.executor.specs.declared.Part.{Part}
-
-set-behind : {A : Type 0} (p q : List A) (i : ℕ) (a : A) → set (p ++ q) (length p + i) a ≡ p ++ set q i a
-set-behind [] q i a = ap (λ (k : ℕ). set q k a) (zero-add i)
-set-behind (x ∷ p) q i a = ap (λ (k : ℕ). set (x ∷ (p ++ q)) k a) (suc-add (length p) i) ∙ ap (λ l. x ∷ l) (set-behind p q i a)
 
 -- ---- What an accepted entry says of memory
 pub record Ready (e : Entered) (state live store : List ℕ) : Type 0 where
@@ -103,7 +99,7 @@ module _ {e : Entered} {state live store : List ℕ} (r : Ready e state live sto
   unfolding requestWorld doing
   global-set g v l = record {
     state = ap (λ (x : List Cell). set x (4 + g) v) (r .holds .state)
-        ∙ set-behind (stateHead (e .world) (resultShown (at .result))) (at .globals ++ at .builtins) g v
+        ∙ set-append-add (stateHead (e .world) (resultShown (at .result))) (at .globals ++ at .builtins) g v
         ∙ ap (λ (x : List Cell). stateHead (e .world) (resultShown (at .result)) ++ x) (set-append-left (at .globals) (at .builtins) g v (omega (arith, r .fits .globals .0)));
     freeLive = r .holds .freeLive;
     live = r .holds .live;
@@ -118,8 +114,8 @@ module _ {e : Entered} {state live store : List ℕ} (r : Ready e state live sto
       let b : 256 + g ≡ length (at .globals) + g = omega (arith, r .fits .globals .0) in
       record {
         state = ap (λ (x : List Cell). set x (260 + g) v) (r .holds .state) ∙ ap (λ (n : ℕ). set (stateCells (e .world)) n v) a
-            ∙ set-behind (stateHead (e .world) (resultShown (at .result))) (at .globals ++ at .builtins) (256 + g) v
-            ∙ ap (λ (x : List Cell). stateHead (e .world) (resultShown (at .result)) ++ x) (ap (λ (n : ℕ). set (at .globals ++ at .builtins) n v) b ∙ set-behind (at .globals) (at .builtins) g v);
+            ∙ set-append-add (stateHead (e .world) (resultShown (at .result))) (at .globals ++ at .builtins) (256 + g) v
+            ∙ ap (λ (x : List Cell). stateHead (e .world) (resultShown (at .result)) ++ x) (ap (λ (n : ℕ). set (at .globals ++ at .builtins) n v) b ∙ set-append-add (at .globals) (at .builtins) g v);
         freeLive = r .holds .freeLive;
         live = r .holds .live;
         freeStore = r .holds .freeStore;

@@ -8,3 +8,4 @@ pub mod Lines
 pub mod Loading
 pub mod Fresh
 pub mod Named
+pub mod Viewed

@@ -4,7 +4,8 @@ use mathlib.Core.List.{List, [], _∷_, _++_, reverse, reverseAux, map, append-a
 use mathlib.Core.Bool.{Bool, true, false}
 use Prim.Native.Nat.{ℕ, zero, suc, _+_, _*_}
 use native.Mathlib.Omega.{arith}
-use lib.ListN.{length, take, drop, length-append, length-reverse, length-map}
+use native.Mathlib.Nat.{zero-add, suc-add}
+use lib.ListN.{length, set, take, drop, length-append, length-reverse, length-map}
 use lib.Seq.{take-at, drop-at, drop-drop}
 use Rattle.cells.specs.declared.Cell.{Cell}
 use Rattle.image.specs.Records.{both}
@@ -13,6 +14,11 @@ use Rattle.image.specs.Parts.{both-assoc}
 use Rattle.machine.specs.Machine.{Handler, Frame, lucia, host, effectCallback, frameCost, framesCost, effects}
 use Rattle.memory.specs.Layout.{Written, untargeted, written, handlerCells, writtenCells, frameCells, flat}
 use Rattle.memory.specs.View.{frameSize, handlersAt, writtenAt, readFrame, frameAt, framesAt}
+
+-- a write behind the front of a list
+pub set-append-add : {A : Type 0} (xs ys : List A) (n : ℕ) (a : A) → set (xs ++ ys) (length xs + n) a ≡ xs ++ set ys n a
+set-append-add {A = A} [] ys n a = ap (λ (k : ℕ). set ys k a) (zero-add n)
+set-append-add {A = A} (x ∷ xs) ys n a = ap (λ (k : ℕ). set (x ∷ (xs ++ ys)) k a) (suc-add (length xs) n) ∙ ap (λ (l : List A). x ∷ l) (set-append-add xs ys n a)
 
 -- ---- All of a list
 both-swap : (a b c : Bool) → both a (both b c) ≡ both (both b a) c

@@ -1,6 +1,6 @@
 -- The form test (refusal 7) on cells: one scan of the store from the front, one of the live stack, one of the state block. `Exact` shows that it accepts what a world in form is written as, and nothing else.
 use mathlib.Core.List.{List}
-use mathlib.Core.Bool.{Bool, true, false}
+use mathlib.Core.Bool.{Bool, true}
 use Prim.Native.Nat.{ℕ, zero, suc, _+_, _*_, _-_}
 use lib.ListN.{length, getD, take, drop}
 use lib.Dec.{ltb, leb, eqb}

@@ -1,6 +1,6 @@
 -- The world that cells hold, read off them; in form, it is the only one that they are written as (`Exact`).
 use mathlib.Core.List.{List, [], _∷_, reverse}
-use mathlib.Core.Bool.{Bool, true, false}
+use mathlib.Core.Bool.{Bool}
 use Prim.Native.Nat.{ℕ, zero, suc, _+_, _*_}
 use lib.ListN.{getD, take, drop}
 use lib.Dec.{ltb, eqb}

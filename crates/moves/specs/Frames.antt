@@ -16,8 +16,8 @@ use Rattle.image.specs.Records.{if?}
 use Rattle.machine.specs.Values.{cell, closureAt}
 use Rattle.machine.specs.Machine.{Handler, Frame, lucia, host, effectCallback, framesCost, give, receive}
 use Rattle.memory.specs.Layout.{Written, written, handlerCells, frameCells, flat}
-use Rattle.memory.specs.Lists.{writtenCost, length-written, length-flat, cost-written}
-use Rattle.moves.specs.Runs.{Top, Turns, Stands, Settles, Runs, luciaWritten, withStack, withCounts, pushed, clearHandlers, endOf, opened, opened-top, top-length, pop-top, set-append-add}
+use Rattle.memory.specs.Lists.{writtenCost, length-written, length-flat, cost-written, set-append-add}
+use Rattle.moves.specs.Runs.{Top, Turns, Stands, Settles, Runs, luciaWritten, withStack, withCounts, pushed, clearHandlers, endOf, opened, opened-top, top-length, pop-top}
 use Rattle.moves.specs.declared.Running.{Running}
 
 -- the live stack holds these frames, and free cells behind them

@@ -205,7 +205,7 @@ unfolding framesSize
 walks-done {X} {goal} {at} {left} i le = let n : left - 1 ≡ 0 = omega (arith, i .some) in let f : at + framesSize 0 (drop at X) ≡ goal = rw n at (i .ahead) in omega arith
 
 -- so many frames at the front have so many cells
-sizes : (fs : List Frame) (m : ℕ) (after : List Cell) → framesSize (length fs + m) (flat fs ++ after) ≡ length (flat fs) + framesSize m after
+pub sizes : (fs : List Frame) (m : ℕ) (after : List Cell) → framesSize (length fs + m) (flat fs ++ after) ≡ length (flat fs) + framesSize m after
 unfolding flat framesSize
 sizes [] m after = let z : 0 + m ≡ m = omega arith in rw z (omega arith)
 sizes (f ∷ fs) m after =

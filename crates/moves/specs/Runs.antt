@@ -2,7 +2,6 @@
 use mathlib.Core.Path.{_≡_, refl, sym, ap, subst, _∙_}
 use mathlib.Core.List.{List, [], _∷_, _++_, reverse, append-assoc, reverse-cons, reverse-append, reverse-reverse}
 use Prim.Native.Nat.{ℕ, zero, suc, _+_, _-_, _*_, _<_, _≤_}
-use native.Mathlib.Nat.{zero-add, suc-add}
 use native.Mathlib.Omega.{arith}
 use lib.ListN.{length, getD, set, take, drop, length-append, length-reverse, length-set, length-drop, take-append-drop, List·getD-append}
 use lib.Seq.{paste, set-at, getD-at, take-at, drop-at, drop-cons, take-append-add, getD-append-add, set-append-left, append-snoc, length-take-le}
@@ -13,7 +12,7 @@ use Rattle.cells.specs.declared.Cell.{Cell}
 use Rattle.machine.specs.Values.{cell, closureAt}
 use Rattle.machine.specs.Machine.{Handler, Frame}
 use Rattle.memory.specs.Layout.{Written, untargeted, handlerCells, writtenCells, flat}
-use Rattle.memory.specs.Lists.{length-handlers}
+use Rattle.memory.specs.Lists.{length-handlers, set-append-add}
 use Rattle.moves.specs.declared.Running.{Running}
 
 -- ---- Frames with other parts
@@ -101,10 +100,6 @@ pub record Turns (f : Written → Written) (g : Running) (old : List ℕ) (r : R
   pub len : length new ≡ length old
 
 -- ---- A part B of a list, and a place in it
-pub set-append-add : {A : Type 0} (xs ys : List A) (n : ℕ) (a : A) → set (xs ++ ys) (length xs + n) a ≡ xs ++ set ys n a
-set-append-add {A = A} [] ys n a = ap (λ (k : ℕ). set ys k a) (zero-add n)
-set-append-add {A = A} (x ∷ xs) ys n a = ap (λ (k : ℕ). set (x ∷ (xs ++ ys)) k a) (suc-add (length xs) n) ∙ ap (λ (l : List A). x ∷ l) (set-append-add xs ys n a)
-
 module _ (P B C : List Cell) (at i : ℕ) (e : at ≡ length P + i) (lt : i < length B) where
   pub part-get : getD (P ++ (B ++ C)) at null ≡ getD B i null
   part-get = ap (λ (k : ℕ). getD (P ++ (B ++ C)) k null) e ∙ getD-append-add P (B ++ C) i null ∙ List·getD-append B C null i lt

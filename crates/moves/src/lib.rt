@@ -12,6 +12,7 @@ ghost use Rattle.memory.specs.View.{framesSize};
 ghost use Rattle.moves.specs.Runs.{Top, Turns, Settles, stackAt, endOf, withCounts, opened, pushed, pushedAll, setTop, setLocal, noHandler, addHandler, setHandler, clearHandlers};
 ghost use Rattle.moves.specs.Frames.{keptIn, Lands, Gets, newWritten, Starts};
 ghost use Rattle.moves.specs.Objects.{made, Stored, Kept, Resumed};
+ghost use Rattle.moves.specs.Starts.{Starting};
 use cells::Cell;
 
 // The frame that runs: where it begins, its counts and its place. Its head need not show the last three until it is settled.
@@ -361,4 +362,20 @@ pub fn put_back(live: &mut [u8], at: usize, store: &[u8], handle: usize, v: Cell
         },
         v,
     )
+}
+
+// Where each of the frames begins, and how many cells they have together.
+pub fn starts(live: &[u8], table: &mut [u32], count: usize) -> usize
+    requires { ⌜ (framesSize count (cells (now live)) ≤ room (now live)) × (room (now live) ≤ 65536) × (count ≤ length (now table)) ⌝ }
+    ensures { λ r. ⌜ Starting (cells (now (live .entry))) count (now (table .entry)) r (now (table .exit)) ⌝ }
+{
+    let mut at = 0;
+    let mut i = 0;
+    while i < count {
+        let next = end(open(live, at));
+        table[i] = at as u32;
+        at = next;
+        i += 1;
+    }
+    at
 }

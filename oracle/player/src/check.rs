@@ -2,29 +2,16 @@
 
 use crate::{
     call::{Call, LIVE_CELLS, Loans, STORE_CELLS, code},
-    cell::{Cell, tag},
-    image::{self, Code, Constant, Program},
-    snapshot::{Frame, FrameKind, Handler, Object, Outcome, Snapshot},
+    form::{Broken, Form, SLICE, must},
+    image::{self, Program},
+    snapshot::{Outcome, Snapshot},
     step::{After, Step},
 };
-
-const MOST_FRAMES: usize = 256;
-const MOST_HANDLERS: usize = 16;
-const MOST_ITEMS: usize = 4_096;
-/// What a slice begins with.
-const SLICE: u32 = 64;
 
 /// Follows one list from a new machine on.
 pub struct Checker {
     program: Option<Program>,
     before: Snapshot,
-}
-
-/// What does not hold.
-type Broken = Result<(), String>;
-
-fn must(holds: bool, what: &str) -> Broken {
-    if holds { Ok(()) } else { Err(what.into()) }
 }
 
 impl Checker {
@@ -48,7 +35,7 @@ impl Checker {
             let old = if loaded { 0 } else { self.before.store.len() };
             must(loaded || after.snapshot.store.starts_with(&self.before.store), "the store changed")?;
             let program = self.program.as_ref().ok_or("something changed with nothing loaded")?;
-            Form { program, snapshot: &after.snapshot, handles: handles(&after.snapshot) }.check(old)?;
+            Form::new(program, &after.snapshot).check(old)?;
         }
         self.before = after.snapshot.clone();
         Ok(())
@@ -81,17 +68,7 @@ impl Checker {
     }
 
     fn just_loaded(&self) -> Snapshot {
-        let captures = self.program.as_ref().map_or(0, |program| program.codes[0].captures.len());
-        Snapshot {
-            loaded: true,
-            frames: Vec::new(),
-            result: Outcome::None,
-            wait: false,
-            left: SLICE,
-            store: vec![Object::Closure { code: 0, upvalues: vec![Cell::NULL; captures] }],
-            globals: vec![Cell::NULL; 256],
-            builtins: vec![Cell::NULL; 256],
-        }
+        Snapshot::just_loaded(self.program.as_ref().map_or(0, |program| program.codes[0].captures.len()))
     }
 }
 
@@ -150,147 +127,6 @@ fn check_costs(loans: Loans, snapshot: &Snapshot) -> Broken {
     must(snapshot.stored() <= (loans.store / 16).min(STORE_CELLS), "more store cells than lent")
 }
 
-/// The first cell of each object.
-fn handles(snapshot: &Snapshot) -> Vec<usize> {
-    let ends = snapshot.store.iter().scan(0, |end, object| {
-        let handle = *end;
-        *end += object.cost();
-        Some(handle)
-    });
-    ends.collect()
-}
-
-/// Memory that a load could lead to (refusal 7).
-struct Form<'a> {
-    program: &'a Program,
-    snapshot: &'a Snapshot,
-    handles: Vec<usize>,
-}
-
-impl Form<'_> {
-    /// Checks the state and the objects from the index `old` on.
-    fn check(&self, old: usize) -> Broken {
-        let Snapshot { frames, result, wait, left, store, globals, builtins, .. } = self.snapshot;
-        must(frames.len() <= MOST_FRAMES, "over 256 frames")?;
-        self.check_frames(frames, store.len())?;
-        let top = frames.last().map(|frame| frame.kind);
-        let is_running = *result == Outcome::None;
-        must(!wait || is_running && matches!(top, Some(FrameKind::Host { .. })), "a wait without a callback on top")?;
-        let may_be_left = is_running && !wait && matches!(top, Some(FrameKind::Lucia { .. }));
-        must(*left == SLICE || *left < SLICE && may_be_left, "an unfinished slice without its frame")?;
-        must(globals.len() == 256 && builtins.len() == 256, "not 256 globals or builtins")?;
-        self.check_cells(globals, store.len())?;
-        self.check_cells(builtins, store.len())?;
-        self.check_outcome(result)?;
-        (old..store.len()).try_for_each(|index| self.check_object(index))
-    }
-
-    fn check_outcome(&self, outcome: &Outcome) -> Broken {
-        let all = self.snapshot.store.len();
-        match outcome {
-            Outcome::None | Outcome::Error(_) => Ok(()),
-            Outcome::Value(cell) => self.check_cell(*cell, all),
-            Outcome::Effect { effect, args } => {
-                must(is_effect(*effect), "the result's effect is none")?;
-                self.check_cell(*effect, all)?;
-                self.check_cells(args, all)
-            }
-        }
-    }
-
-    /// An object names earlier ones only.
-    fn check_object(&self, index: usize) -> Broken {
-        match &self.snapshot.store[index] {
-            Object::Closure { code, upvalues } => {
-                let of = self.program.codes.get(*code as usize).ok_or("a closure of no code")?;
-                must(upvalues.len() == of.captures.len(), "another number of upvalues")?;
-                self.check_cells(upvalues, index)
-            }
-            Object::List(items) => {
-                must(items.len() <= MOST_ITEMS, "over 4,096 items")?;
-                self.check_cells(items, index)
-            }
-            Object::Continuation(frames) => {
-                must((1..=MOST_FRAMES).contains(&frames.len()), "a continuation of no frames, or over 256")?;
-                self.check_frames(frames, index)
-            }
-        }
-    }
-
-    fn check_frames(&self, frames: &[Frame], earlier: usize) -> Broken {
-        frames.iter().try_for_each(|frame| self.check_frame(frame, earlier))
-    }
-
-    fn check_frame(&self, frame: &Frame, earlier: usize) -> Broken {
-        must(frame.handlers.len() <= MOST_HANDLERS, "over 16 handlers")?;
-        let (locals, targets) = match frame.kind {
-            FrameKind::Lucia { closure, place } => {
-                let code = self.code_of(closure, earlier)?;
-                must((place as usize) < code.opcodes.len(), "a place outside its code")?;
-                (code.locals.into(), code.opcodes.len() as u32)
-            }
-            FrameKind::Host { .. } => (0, 1),
-            FrameKind::Effect { effect } => {
-                must(is_effect(effect), "an effect frame of no effect")?;
-                self.check_cell(effect, earlier)?;
-                (0, 1)
-            }
-        };
-        must(frame.locals.len() == locals, "another number of locals")?;
-        for Handler { effect, target, .. } in &frame.handlers {
-            must(is_effect(*effect) && *target < targets, "a handler of no effect, or its target outside its code")?;
-            self.check_cell(*effect, earlier)?;
-        }
-        self.check_cells(&frame.locals, earlier)?;
-        self.check_cells(&frame.stack, earlier)
-    }
-
-    /// The code of the closure at a handle.
-    fn code_of(&self, closure: u32, earlier: usize) -> Result<&Code, String> {
-        match self.object(closure, earlier) {
-            Some(Object::Closure { code, .. }) => Ok(&self.program.codes[*code as usize]),
-            _ => Err("a frame of no earlier closure".into()),
-        }
-    }
-
-    /// The object at a handle, if it is one of the first `earlier`.
-    fn object(&self, handle: u32, earlier: usize) -> Option<&Object> {
-        let index = self.handles[..earlier].binary_search(&(handle as usize)).ok()?;
-        Some(&self.snapshot.store[index])
-    }
-
-    fn check_cells(&self, cells: &[Cell], earlier: usize) -> Broken {
-        cells.iter().try_for_each(|cell| self.check_cell(*cell, earlier))
-    }
-
-    /// A cell is one value, and names something that is there.
-    fn check_cell(&self, cell: Cell, earlier: usize) -> Broken {
-        let Cell { tag, number, payload } = cell;
-        let object = || self.object(number, earlier).filter(|_| payload == 0);
-        let constant = || self.program.codes.get(number as usize)?.constants.get(usize::try_from(payload).ok()?);
-        let holds = match tag {
-            tag::NULL => number == 0 && payload == 0,
-            tag::BOOL => number < 2 && payload == 0,
-            tag::INT | tag::FLOAT => number == 0,
-            tag::STR => matches!(constant(), Some(Constant::Str(_))),
-            tag::BYTES => matches!(constant(), Some(Constant::Bytes(_))),
-            tag::USER_EFFECT => matches!(constant(), Some(Constant::UserEffect { .. })),
-            tag::BUILTIN_EFFECT => number < 3 && payload == 0,
-            tag::MESSAGE => (1..=6).contains(&number) && payload == 0,
-            tag::LIST => matches!(object(), Some(Object::List(_))),
-            tag::CLOSURE => matches!(object(), Some(Object::Closure { .. })),
-            tag::CONTINUATION => matches!(object(), Some(Object::Continuation(_))),
-            tag::CALLBACK => true,
-            _ => false,
-        };
-        if holds { Ok(()) } else { Err(format!("{cell:?} is no value, or names nothing earlier")) }
-    }
-}
-
-fn is_effect(cell: Cell) -> bool {
-    cell.tag % 16 == tag::BUILTIN_EFFECT
-}
-
 #[cfg(test)]
 mod tests {
     use std::rc::Rc;
@@ -298,6 +134,8 @@ mod tests {
     use super::*;
     use crate::{
         call::Answer,
+        cell::{Cell, tag},
+        snapshot::{Frame, FrameKind},
         step::fuel_bytes,
         tree::{CodeTree, encode},
     };
@@ -312,29 +150,14 @@ mod tests {
             page: Rc::default(),
             call: Call::Load,
         };
-        let snapshot = Checker { program: None, before: nothing() }.just_loaded();
+        let snapshot = Checker { program: None, before: Snapshot::nothing_loaded() }.just_loaded();
         (step.clone(), After { answer: Answer::default(), fuel: step.fuel, snapshot })
-    }
-
-    fn nothing() -> Snapshot {
-        let cells = vec![Cell::NULL; 256];
-        let (frames, store, result) = (Vec::new(), Vec::new(), Outcome::None);
-        Snapshot {
-            loaded: false,
-            frames,
-            result,
-            wait: false,
-            left: 64,
-            store,
-            globals: cells.clone(),
-            builtins: cells,
-        }
     }
 
     /// What the checker says of the load, then of a call that leaves memory so.
     fn judged(call: Call, change: fn(&mut After)) -> Broken {
         let (mut step, mut after) = loaded();
-        let mut checker = Checker::new(nothing());
+        let mut checker = Checker::new(Snapshot::nothing_loaded());
         checker.check(&step, &after)?;
         step.call = call;
         change(&mut after);
@@ -363,7 +186,7 @@ mod tests {
         let start = Call::Start { function: Cell::NULL, args: vec![] };
         let judged_frame = |frame: Frame| {
             let (mut step, mut after) = loaded();
-            let mut checker = Checker::new(nothing());
+            let mut checker = Checker::new(Snapshot::nothing_loaded());
             checker.check(&step, &after)?;
             step.call = start.clone();
             after.snapshot.frames.push(frame);

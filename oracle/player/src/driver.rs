@@ -373,7 +373,7 @@ fn give_back(fuel: &Fuel, lent: &mut [u8]) {
 }
 
 /// The message of that number on the page: the text up to its LF; a missing one is empty, at the end.
-fn message(page: &[u8], number: u32) -> Answer {
+pub(crate) fn message(page: &[u8], number: u32) -> Answer {
     let mut lines = page.split_inclusive(|&byte| byte == b'\n').filter(|line| line.ends_with(b"\n"));
     let before: Vec<&[u8]> = lines.by_ref().take(number as usize - 1).collect();
     let (start, len) = match lines.next() {

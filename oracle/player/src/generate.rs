@@ -13,6 +13,7 @@ use std::rc::Rc;
 use crate::{
     call::{Call, Machine, code, kind},
     cell::{Cell, bytes_of, tag},
+    driver::Driver,
     image::{self, Program},
     random::Random,
     snapshot::{Outcome, Snapshot},
@@ -38,6 +39,26 @@ pub fn list(seed: u64, machine: &mut dyn Machine, each: &mut dyn FnMut(&Step, &A
         each(&step, &after);
         list.learn(&step, after);
     }
+}
+
+/// A loaded image, and what memory holds then.
+#[derive(Clone, Debug)]
+pub struct State {
+    pub image: Rc<[u8]>,
+    pub snapshot: Snapshot,
+}
+
+/// What the calls of this seed's list leave on the Rust from its first accepted load on.
+pub fn states(seed: u64) -> Vec<State> {
+    let mut loaded: Option<Rc<[u8]>> = None;
+    let mut states = Vec::new();
+    list(seed, &mut Driver::new(), &mut |step, after| {
+        if step.call == Call::Load && after.answer.code == code::ACCEPTED {
+            loaded = Some(Rc::clone(&step.image));
+        }
+        states.extend(loaded.as_ref().map(|image| State { image: Rc::clone(image), snapshot: after.snapshot.clone() }));
+    });
+    states
 }
 
 /// A random program whose image is accepted.

@@ -117,6 +117,12 @@ impl Snapshot {
         }
     }
 
+    /// After a load of an image whose outermost code has so many captures.
+    pub fn just_loaded(captures: usize) -> Snapshot {
+        let outermost = Object::Closure { code: 0, upvalues: vec![Cell::NULL; captures] };
+        Snapshot { loaded: true, store: vec![outermost], ..Snapshot::nothing_loaded() }
+    }
+
     /// Live cells used: the frames and an effect result's arguments.
     pub fn live(&self) -> usize {
         let args = match &self.result {
@@ -124,6 +130,15 @@ impl Snapshot {
             _ => 0,
         };
         self.frames.iter().map(Frame::cost).sum::<usize>() + args
+    }
+
+    /// The handle of each object: the place of its first cell.
+    pub fn handles(&self) -> impl Iterator<Item = usize> {
+        self.store.iter().scan(0, |end, object| {
+            let handle = *end;
+            *end += object.cost();
+            Some(handle)
+        })
     }
 
     /// Store cells used.

@@ -23,10 +23,10 @@ enum-told : tie.Need-enum-told
 enum-told c = search needs
 
 returns : tie.Need-returns
-returns c = search (entered-not, entered-in)
+returns c = search entered-not
 
 returns-2 : tie.Need-returns-2
-returns-2 c = search (entered-not, entered-in)
+returns-2 c = search entered-in
 
 pub entered-spec : {M : Type 1} → statement M
 entered-spec =

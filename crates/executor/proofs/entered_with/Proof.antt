@@ -38,10 +38,10 @@ named-in-requires c κs =
     (with-fits w e (search needs) (search needs) (search needs), with-size w e, with-used w e)
 
 returns : tie.Need-returns
-returns c = search (with-not, with-named)
+returns c = search with-not
 
 returns-2 : tie.Need-returns-2
-returns-2 c = search (with-not, with-named)
+returns-2 c = search with-named
 
 pub entered-with-spec : {M : Type 1} → statement M
 entered-with-spec =

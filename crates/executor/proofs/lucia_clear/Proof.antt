@@ -21,13 +21,13 @@ same-length : tie.Need-same-length
 same-length c = search needs
 
 returns : tie.Need-returns
-returns c = search (clear-not, clear-in)
+returns c = search clear-not
 
 same-length-2 : tie.Need-same-length-2
 same-length-2 c = search needs
 
 returns-2 : tie.Need-returns-2
-returns-2 c = search (clear-not, clear-in)
+returns-2 c = search clear-in
 
 pub lucia-clear-spec : {M : Type 1} → statement M
 lucia-clear-spec =

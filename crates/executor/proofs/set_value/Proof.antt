@@ -21,7 +21,7 @@ same-length : tie.Need-same-length
 same-length c = search needs
 
 returns : tie.Need-returns
-returns c = search (set-not, set-unknown, set-over, set-in)
+returns c = search set-over
 
 add-put : tie.Need-add-put
 add-put c = search needs
@@ -33,19 +33,19 @@ same-length-2 : tie.Need-same-length-2
 same-length-2 c = search needs
 
 returns-2 : tie.Need-returns-2
-returns-2 c = search (set-not, set-unknown, set-over, set-in)
+returns-2 c = search set-not
 
 same-length-3 : tie.Need-same-length-3
 same-length-3 c = search needs
 
 returns-3 : tie.Need-returns-3
-returns-3 c = search (set-not, set-unknown, set-over, set-in)
+returns-3 c = search set-unknown
 
 same-length-4 : tie.Need-same-length-4
 same-length-4 c = search needs
 
 returns-4 : tie.Need-returns-4
-returns-4 c = search (set-not, set-unknown, set-over, set-in)
+returns-4 c = search set-in
 
 pub set-value-spec : {M : Type 1} → statement M
 set-value-spec =
