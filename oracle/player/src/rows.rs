@@ -8,7 +8,7 @@ use std::{
 
 use crate::{
     call::{Answer, Call, LIVE_CELLS, Lent, Loans, Machine, STATE_LENGTH, STORE_CELLS, code, kind},
-    cell::Cell,
+    cell::{Cell, tag},
     driver::Driver,
     generate,
     image::{self, Code, MAX_BYTES, Part},
@@ -21,11 +21,21 @@ use crate::{
 const MOST_TICKS: u32 = 1_000;
 /// To read a longer image takes too many steps, unless it is over the limit of all images.
 const MOST_BYTES: usize = 11_000;
+/// Messages before the one that is asked for, times their bytes: to find one with more before it may take too many steps.
+const MOST_BEFORE: usize = 170;
 
 const LONG: &str = "a load of a long image";
+const DEEP: &str = "a text after long messages";
 
 fn is_long(image: &[u8]) -> bool {
     (MOST_BYTES + 1..=MAX_BYTES).contains(&image.len())
+}
+
+/// Only a message that the page has: a missing one takes few steps.
+fn is_deep(step: &Step, after: &After) -> bool {
+    let Call::Text { value: Cell { tag: tag::MESSAGE, number, .. } } = step.call else { return false };
+    let (before, start) = (number.saturating_sub(1) as usize, after.answer.start as usize);
+    start < step.page.len() && before * start > MOST_BEFORE
 }
 
 /// Rows as text, and how many calls were left out and why.
@@ -76,6 +86,7 @@ impl Rows {
                 _ if matches!(code, 6 | 7 | 10) => Err("refused with 6, 7 or 10"),
                 _ if step.call != Call::Load && (1..=4).contains(&code) => Err("lent a refused image"),
                 _ if step.call == Call::Load && code != 0 && is_long(&step.image) => Err(LONG),
+                _ if is_deep(step, after) => Err(DEEP),
                 None => Err("lent other memory, or an answer or list of no form"),
                 Some(_) if row.is_none() && step.call != Call::Load => Err("after a call left out"),
                 Some(call) => Ok(call),
@@ -83,7 +94,7 @@ impl Rows {
             row = match (call, row) {
                 (Err(why), row) => {
                     *self.left_out.entry(why).or_default() += 1;
-                    let changed = code == 0 || code >= 100 || ticks > 0;
+                    let changed = why != DEEP && (code == 0 || code >= 100 || ticks > 0);
                     if changed { self.end(row) } else { row }
                 }
                 (Ok(_), row) if step.call == Call::Load && code == 0 => {
@@ -435,7 +446,7 @@ impl Machine for Constant {
 #[cfg(test)]
 mod tests {
     use super::*;
-    use crate::{assemble::assemble, case, cell::tag, step::fuel_bytes};
+    use crate::{assemble::assemble, case, step::fuel_bytes};
 
     fn rows(lines: &str) -> Rows {
         let text =
@@ -477,6 +488,13 @@ mod tests {
         assert_eq!(answers[2], Answer { ticks: 2_500, ..Answer::of(code::PAUSED) });
         let ticks: Vec<u32> = machine.list.iter().map(|(_, after)| after.answer.ticks).collect();
         assert_eq!(ticks, [0, 0, 1_000, 1_000, 500]);
+    }
+
+    #[test]
+    fn a_text_after_long_messages_is_left_out_alone() {
+        let page = r"arguments\n".repeat(6);
+        let rows = rows(&format!("page \"{page}\"\ntext message 6\ntext message 5\nstart closure @0"));
+        assert_eq!(rows.tally(), format!("1 lists, 1 rows, 3 calls, 0 ticks; 1 left out: {DEEP}"));
     }
 
     #[test]
