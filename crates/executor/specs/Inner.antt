@@ -45,7 +45,7 @@ formed-size image state live store h e = by (entry image state live store) refl 
     by (accepted e) q h = ready image state live store e q .size
 
 -- a cell of the globals or builtins is there
-pub room-for : (image state live store : List ℕ) {o : Entry} {first number : ℕ} → o ≡ entryOf (entry image state live store) → o ≡ InForm → first ≤ 260 → number ≤ 255 → first + number < length state / 16
+pub room-for : (image state live store : List ℕ) {o : Entry} {first number : ℕ} → o ≡ entryOf (entry image state live store) → o ≡ InForm → first ≤ 260 → number < 256 → first + number < length state / 16
 room-for image state live store h e a b = omega (arith, formed-size image state live store h e)
 
 -- ---- Reading a cell of the state block
@@ -67,7 +67,7 @@ module _ (first number : ℕ) (state : List ℕ) (x : Answer Entered) {o : Entry
         by (refused m) h = let z : _≡_ {A = ℕ} 0 1 = cc in absurd (omega arith)
         by (accepted e) h = rw (le-ltb number 256 (omega arith))
 
-    pub reading-in : {v : Cell} {r : Got} → number ≤ 255 → v ≡ getD (cells state) (first + number) null → r ≡ gotOf 0 v → r ≡ reading first number state x
+    pub reading-in : {v : Cell} {r : Got} → number < 256 → v ≡ getD (cells state) (first + number) null → r ≡ gotOf 0 v → r ≡ reading first number state x
     unfolding reading
     reading-in {v} l q b = b ∙ by x (sym e ∙ w)
       where

@@ -204,7 +204,7 @@ fn get_value(
     match entered(image, state, live, store) {
         Entry::Refused(n) => answered(n, null()),
         Entry::InForm => {
-            if number > 255 {
+            if number >= 256 {
                 return answered(5, null());
             }
             answered(0, cells::get(state, first + number as usize))
