@@ -17,7 +17,7 @@ use Rattle.image.specs.Accepted.{accepted-fine}
 use Rattle.machine.specs.Values.{Program}
 use Rattle.machine.specs.Calls.{Sizes, World, Request, asks, callOf, worldAfter, loadOf, programOf, load, loaded, loadedMachine}
 use Rattle.machine.specs.Form.{WorldFits}
-use Rattle.machine.specs.FormLaws.{form-law, load-form}
+use Rattle.machine.specs.FormLaws.{form-law, loaded-as, load-form}
 use Rattle.machine.specs.Machine.{used}
 use Rattle.memory.specs.Layout.{Holds, storeCells, resultShown, flat}
 use Rattle.memory.specs.StoreLaws.{length-store}
@@ -69,20 +69,6 @@ asked-view q image state live store r state′ e h a =
     let x = entry-holds (e .program) (worldAfter (callOf (e .program) (sizesOf live store) (asks q) (e .world))) state′ live store parsed (l .len ∙ k .size) (l .holds) fits in
     (x .0, ap (λ (i : List ℕ). entry i state′ live store) (sym (p .1)) ∙ x .1)
 
-loaded-of : (image : List ℕ) (z : Sizes) (P : Program) → load image z ≡ accepted P → (parse (P .image) ≡ accepted (P .codes)) × (P .image ≡ image)
-unfolding loadOf programOf
-loaded-of image z P = by (parse image) refl
-  where
-    fits : (R : Program) (b : Bool) → parse image ≡ accepted (R .codes) → R .image ≡ image → if? b (refused 15) (accepted R) ≡ accepted P → (parse (P .image) ≡ accepted (P .codes)) × (P .image ≡ image)
-    fits R true q i e = let y : _≡_ {A = ℕ} 0 1 = cc in absurd (omega arith)
-    fits R false q i e =
-        let y : R ≡ P = cc in
-        (ap (λ (x : Program). parse (x .image)) (sym y) ∙ ap parse i ∙ q ∙ ap (λ (x : Program). accepted (x .codes)) y, ap (λ (x : Program). x .image) (sym y) ∙ i)
-
-    by : (x : Answer (List Code)) → parse image ≡ x → loadOf image z (programOf image x) ≡ accepted P → (parse (P .image) ≡ accepted (P .codes)) × (P .image ≡ image)
-    by (refused n) q e = let y : _≡_ {A = ℕ} 0 1 = cc in absurd (omega arith)
-    by (accepted cs) q e = fits (record { image = image; codes = cs }) (ltb (z .store) (used (loadedMachine (record { image = image; codes = cs }) .store))) q refl e
-
 loading-is : (image state live store : List ℕ) (P : Program) → loading image state live store ≡ accepted P
     → (length state ≡ 8256) × (load image (sizesOf live store) ≡ accepted P) × (parse (P .image) ≡ accepted (P .codes)) × (P .image ≡ image)
 unfolding loading
@@ -90,7 +76,7 @@ loading-is image state live store P h = by (eqb (length state) 8256) refl h
   where
     by : (b : Bool) → eqb (length state) 8256 ≡ b → if? b (load image (sizesOf live store)) (refused 6) ≡ accepted P
         → (length state ≡ 8256) × (load image (sizesOf live store) ≡ accepted P) × (parse (P .image) ≡ accepted (P .codes)) × (P .image ≡ image)
-    by true q h = let k = loaded-of image (sizesOf live store) P h in (eqb-true (length state) 8256 q, h, k .0, k .1)
+    by true q h = let k = loaded-as P (sizesOf live store) image h in (eqb-true (length state) 8256 q, h, k .parsed, k .image)
     by false q h = let z : _≡_ {A = ℕ} 0 1 = cc in absurd (omega arith)
 
 -- after an accepted load it holds the loaded world, whatever was there

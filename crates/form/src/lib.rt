@@ -6,7 +6,7 @@ ghost use lib.ListN.{length, take, getD};
 ghost use Rattle.cells.specs.Cells.{null, room, cells};
 ghost use Rattle.image.specs.Records.{both};
 ghost use Rattle.memory.specs.View.{framesSize};
-ghost use Rattle.memory.specs.Tests.{isNullCell, topKind, turnFits, closureFits, listFits, continuationFits, objectFits, storeFits, liveFits, errorFits, resultFits, inForm};
+ghost use Rattle.memory.specs.Tests.{topKind, turnFits, closureFits, listFits, continuationFits, objectFits, storeFits, liveFits, errorFits, resultFits, inForm};
 ghost use Rattle.scan.specs.Tables.{programIn};
 ghost use Rattle.form.specs.Entry.{heldAnswer, Enters};
 use cells::Cell;
@@ -21,13 +21,6 @@ fn both(a: bool, b: bool) -> bool
         return b;
     }
     false
-}
-
-// Is a cell null?
-fn is_null(c: Cell) -> bool
-    ensures { λ r. ⌜ r ≡ isNullCell c ⌝ }
-{
-    both(c.tag == 0, both(c.number == 0, c.payload == 0))
 }
 
 // The closure at `at`: its code, and as many upvalues as that captures.
@@ -269,7 +262,7 @@ fn error_fits(
         5 => both(both(tag < 52, payload < 10), second < 10),
         6 => both(both(both(tag < 24, number == 0), payload < 10), second == 0),
         7 => both(both(both(tag < 24, number == 0), payload < 10), second < 10),
-        8 => both(is_null(v), second == 0),
+        8 => both(scan::is_null(v), second == 0),
         9..=10 => both(
             scan::value_fits(image, rows, constants, inner, codes, store, used, v),
             second == 0,
@@ -308,7 +301,7 @@ fn result_fits(
         return false;
     }
     match kind {
-        0 => both(is_null(v), second == 0),
+        0 => both(scan::is_null(v), second == 0),
         1 => both(
             scan::value_fits(image, rows, constants, inner, codes, store, used, v),
             second == 0,

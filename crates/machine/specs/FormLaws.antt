@@ -246,28 +246,30 @@ module _ (P : Program) (z : Sizes) where
 pub form-law : (P : Program) (z : Sizes) → Accepted (P .image) (P .codes) → z .live ≤ 4096 → (c : Call) → RefusedLoad z c → (w : World) → WorldFits P z w → WorldFits P z (worldAfter (callOf P z c w))
 form-law P z a small c r w h = call-fits P z a small c r w h
 
--- The image of P stands for it, and it fits the store lent.
-abbrev Read : Sizes → Program → Type 0
-Read z P = (parse (P .image) ≡ accepted (P .codes)) × (used (loadedMachine P .store) ≤ z .store)
+-- The image stands for P, and what it loads fits the store lent.
+pub record LoadedAs (P : Program) (z : Sizes) (i : List ℕ) : Type 0 where
+  pub parsed : parse (P .image) ≡ accepted (P .codes)
+  pub image : P .image ≡ i
+  pub used : used (loadedMachine P .store) ≤ z .store
 
-loaded-as : (P : Program) (z : Sizes) (image : List ℕ) → load image z ≡ accepted P → Read z P
+pub loaded-as : (P : Program) (z : Sizes) (image : List ℕ) → load image z ≡ accepted P → LoadedAs P z image
 unfolding loadOf programOf
 loaded-as P z image = by (parse image) refl
   where
-    room : (R : Program) (b : Bool) → ltb (z .store) (used (loadedMachine R .store)) ≡ b → parse (R .image) ≡ accepted (R .codes) → if? b (refused 15) (accepted R) ≡ accepted P → Read z P
-    room R true l q e = let y : _≡_ {A = ℕ} 0 1 = cc in absurd (omega arith)
-    room R false l q e = let y : R ≡ P = cc in let h : Read z R = (q, ltb-false _ _ l) in rw y at h
+    room : (R : Program) (b : Bool) → ltb (z .store) (used (loadedMachine R .store)) ≡ b → parse (R .image) ≡ accepted (R .codes) → R .image ≡ image → if? b (refused 15) (accepted R) ≡ accepted P → LoadedAs P z image
+    room R true l q i e = let y : _≡_ {A = ℕ} 0 1 = cc in absurd (omega arith)
+    room R false l q i e = let y : R ≡ P = cc in let h : LoadedAs R z image = record { parsed = q; image = i; used = ltb-false _ _ l } in rw y at h
 
-    by : (x : Answer (List Code)) → parse image ≡ x → loadOf image z (programOf image x) ≡ accepted P → Read z P
+    by : (x : Answer (List Code)) → parse image ≡ x → loadOf image z (programOf image x) ≡ accepted P → LoadedAs P z image
     by (refused n) q e = let y : _≡_ {A = ℕ} 0 1 = cc in absurd (omega arith)
-    by (accepted cs) q e = room (record { image = image; codes = cs }) _ refl q e
+    by (accepted cs) q e = room (record { image = image; codes = cs }) _ refl q refl e
 
 -- The world that an accepted load makes is in form.
 pub load-form : (P : Program) (z : Sizes) (image : List ℕ) → load image z ≡ accepted P → WorldFits P z (loaded P)
 unfolding loadedMachine framesCost resultCost topOf
 load-form P z image e =
     let k = loaded-as P z image e in
-    let a = accepted-fine (P .image) (P .codes) (k .0) in
+    let a = accepted-fine (P .image) (P .codes) (k .parsed) in
     let n = length (codeOf P 0 .captures) in
     let s = loadedMachine P .store in
     record {
@@ -276,7 +278,7 @@ load-form P z image e =
       store = ((omega (arith, a .some), length-replicate n null, all-values P [] (replicate n null) (all-replicate (Value P []) n null (null-value P []))), tt);
       result = tt;
       live = omega arith;
-      used = k .1;
+      used = k .used;
       globals = (length-replicate 256 null, all-values P s (replicate 256 null) (all-replicate (Value P s) 256 null (null-value P s)));
       builtins = (length-replicate 256 null, all-values P s (replicate 256 null) (all-replicate (Value P s) 256 null (null-value P s)));
       turn = (refl, refl);
@@ -284,4 +286,4 @@ load-form P z image e =
 
 -- Every world that calls lead to from an accepted load is in form.
 pub calls-form : (P : Program) (z : Sizes) (image : List ℕ) → load image z ≡ accepted P → z .live ≤ 4096 → (cs : List Call) → All (RefusedLoad z) cs → WorldFits P z (callsOf P z cs (loaded P))
-calls-form P z image e small cs r = calls-fit P z (accepted-fine (P .image) (P .codes) (loaded-as P z image e .0)) small cs r (loaded P) (load-form P z image e)
+calls-form P z image e small cs r = calls-fit P z (accepted-fine (P .image) (P .codes) (loaded-as P z image e .parsed)) small cs r (loaded P) (load-form P z image e)

@@ -9,3 +9,5 @@ pub mod FrameLaws
 pub mod StoreLaws
 pub mod StateLaws
 pub mod Exact
+-- The test on a sample.
+pub mod Rows

@@ -218,7 +218,7 @@ fn handlers_fit(
 }
 
 // Is a cell null?
-fn is_null(c: Cell) -> bool
+pub fn is_null(c: Cell) -> bool
     ensures { λ r. ⌜ r ≡ isNullCell c ⌝ }
 {
     if c.tag != 0 {
