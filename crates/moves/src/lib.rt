@@ -192,7 +192,7 @@ pub fn clear_handlers(live: &mut [u8], g: Running) -> Running
 }
 
 // The frame at `base` as it is before it gets a value: a Lucia frame keeps its stack, a callback frame's is emptied.
-fn kept(x: &[u8], base: usize) -> Running
+pub fn kept(x: &[u8], base: usize) -> Running
     requires { ⌜ base + 6 ≤ room (now x) ⌝ }
     ensures { λ r. ⌜ (r ≡ keptIn (cells (now (x .entry))) base) × (r .place < 4294967296) ⌝ }
 {
@@ -328,7 +328,7 @@ pub fn upvalue(store: &[u8], handle: usize, i: usize) -> Cell
 }
 
 // Where the last of so many frames from `from` on begins.
-fn last_frame(x: &[u8], from: usize, count: usize) -> usize
+pub fn last_frame(x: &[u8], from: usize, count: usize) -> usize
     requires { ⌜ (0 < count) × (from + framesSize (count - 1) (drop from (cells (now x))) ≤ room (now x)) ⌝ }
     ensures { λ r. ⌜ r ≡ from + framesSize (count - 1) (drop from (cells (now (x .entry)))) ⌝ }
 {

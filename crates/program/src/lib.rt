@@ -50,7 +50,7 @@ fn wide32(x: u32) -> usize
 }
 
 // The number of two bytes; a byte past the end counts 0.
-fn le16(s: &[u8], at: usize) -> u16
+pub fn le16(s: &[u8], at: usize) -> u16
     ensures { λ r. ⌜ r ≡ leAt 2 (now (s .entry)) at ⌝ }
 {
     if at >= s.len() {
@@ -88,7 +88,7 @@ fn entry(t: &[u32], i: usize) -> usize
 }
 
 // A byte, 0 past the end.
-fn byte(s: &[u8], i: usize) -> u8
+pub fn byte(s: &[u8], i: usize) -> u8
     ensures { λ r. ⌜ r ≡ getD (now (s .entry)) i 0 ⌝ }
 {
     if i < s.len() {

@@ -1,0 +1,95 @@
+// A plan is carried out. There is room for what it leaves: that was judged before, so nothing is refused here.
+ghost use Rattle.cells.specs.Cells.{room, cells};
+ghost use Rattle.actions.specs.Acted.{Startable, StartsFrame, Resumable, Resumes, Beginnable, Begun, Carriable, CarriesOut};
+use cells::Cell;
+use moves::Running;
+use plan::Counts;
+use plan::Params;
+use plan::Plan;
+use plan::Start;
+
+// A new frame on top, with the parsed arguments on its stack.
+fn start_frame(
+    live: &mut [u8],
+    store: &mut [u8],
+    starts: &mut [u32],
+    c: Counts,
+    f: Start,
+    p: Params,
+    args: &[u8],
+)
+    requires { ⌜ Startable c f p (room (now args)) (now live) (now store) (now starts) ⌝ }
+    ensures { λ _. ⌜ StartsFrame c f p (cells (now (args .entry))) (now (live .entry)) (now (store .entry)) (now (starts .entry)) (now (live .exit)) (now (store .exit)) (now (starts .exit)) ⌝ }
+{
+    arguments::list_rest(store, c.store, args, p);
+    moves::new_frame(live, c.live, f.kind, f.subject, f.locals, 0, 0);
+    let g = Running {
+        base: c.live,
+        locals: f.locals as usize,
+        handlers: 0,
+        stack: 0,
+        place: 0,
+    };
+    let h = arguments::push_args(live, g, args, p, c.store);
+    moves::settle(live, h);
+    let top = c.frames;
+    starts[top] = c.live as u32;
+}
+
+// The starts of `count` frames from `at` on go into the table behind the first ones.
+fn begin(live: &[u8], starts: &mut [u32], first: usize, at: usize, count: usize)
+    requires { ⌜ Beginnable first at count (cells (now live)) (now starts) ⌝ }
+    ensures { λ _. ⌜ Begun first at count (cells (now (live .entry))) (now (starts .entry)) (now (starts .exit)) ⌝ }
+{
+    let mut place = at;
+    let mut i = 0;
+    while i < count {
+        let next = moves::end(moves::open(live, place));
+        starts[first + i] = place as u32;
+        place = next;
+        i += 1;
+    }
+}
+
+// The frames of a continuation on top, with the value.
+fn resume(live: &mut [u8], store: &[u8], starts: &mut [u32], c: Counts, handle: usize, v: Cell)
+    requires { ⌜ Resumable c handle v (now live) (now store) (now starts) ⌝ }
+    ensures { λ _. ⌜ Resumes c handle v (now (live .entry)) (now (store .entry)) (now (starts .entry)) (now (live .exit)) (now (starts .exit)) ⌝ }
+{
+    moves::put_back(live, c.live, store, handle, v);
+    let count = cells::number(store, handle) as usize;
+    begin(live, starts, c.frames, c.live, count);
+}
+
+// What a plan says is done, with the arguments that it was made for.
+pub fn carry(
+    plan: Plan,
+    args: &[u8],
+    state: &mut [u8],
+    live: &mut [u8],
+    store: &mut [u8],
+    starts: &mut [u32],
+    c: Counts,
+)
+    requires { ⌜ Carriable plan (cells (now args)) c (now state) (now live) (now store) (now starts) ⌝ }
+    ensures { λ _. ⌜ CarriesOut plan (cells (now (args .entry))) c (now (state .entry)) (now (live .entry)) (now (store .entry)) (now (starts .entry)) (now (state .exit)) (now (live .exit)) (now (store .exit)) (now (starts .exit)) ⌝ }
+{
+    match plan {
+        Plan::Starts(f, p) => start_frame(live, store, starts, c, f, p, args),
+        Plan::Resumes(handle, v) => resume(live, store, starts, c, handle, v),
+        Plan::Handles(i, j, e, p) => captures::capture(live, store, starts, c, i, j, e, p, args),
+        Plan::Catches(i, j, x) => captures::catch(live, store, starts, c, i, j, x),
+        Plan::Unhandled(e) => {
+            let n = cells::room(args);
+            cells::copy(live, c.live, args, 0, n);
+            states::set_result(state, 2, e, 0, n as u64);
+        }
+        Plan::Fails(x) => states::set_result(state, x.kind as u64, x.value, x.second, 0),
+        Plan::Receives(v) => {
+            let top = c.frames - 1;
+            moves::receive(live, starts[top] as usize, v);
+        }
+        Plan::Returns(v) => states::set_result(state, 1, v, 0, 0),
+        Plan::Stays => {}
+    }
+}

@@ -1,0 +1,2 @@
+-- Parsed arguments in memory: one law for each answer.
+pub mod Laws

@@ -1,0 +1,2 @@
+-- Effects: one law for each answer.
+pub mod Effects

@@ -1,0 +1,3 @@
+-- One law for each answer.
+pub mod Errors
+pub mod Constants
