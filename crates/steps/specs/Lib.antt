@@ -1,0 +1,6 @@
+-- One opcode.
+pub mod Stepped
+pub mod SteppedLaws
+pub mod Numbers
+pub mod Needed
+pub mod Families
