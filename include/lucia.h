@@ -1,5 +1,5 @@
 /* The executor of Lucia. docs/LAYOUT.md fixes the memory that a host lends, document 01 the rules. Loans must not overlap, but for the image and the page, and a loan of length 0 needs a
-   pointer that is not null all the same. A refused call leaves every byte of memory as it was. */
+   pointer that is not null all the same. A refused call leaves every byte of memory as it was; a run that is refused at an opcode leaves memory as before that opcode, with the ticks taken. */
 #ifndef LUCIA_H
 #define LUCIA_H
 
@@ -29,7 +29,7 @@ enum {
     LUCIA_CALLBACK = 39
 };
 
-/* Answers: 0, or the number of a refusal. */
+/* Answers: 0 or a number from 100 on, or the number of a refusal. */
 enum {
     LUCIA_ACCEPTED = 0,
     LUCIA_IMAGE_SIZE = 1,
@@ -41,7 +41,15 @@ enum {
     LUCIA_NOT_IN_FORM = 7,
     LUCIA_NOT_LOADED = 10,
     LUCIA_OUT_OF_TURN = 11,
-    LUCIA_STORE_FULL = 15
+    LUCIA_FEW_VALUES = 12,
+    LUCIA_MANY_FRAMES = 13,
+    LUCIA_LIVE_FULL = 14,
+    LUCIA_STORE_FULL = 15,
+    LUCIA_MANY_HANDLERS = 16,
+    LUCIA_DONE = 100,
+    LUCIA_OUT_OF_FUEL = 101,
+    LUCIA_PAUSED = 102,
+    LUCIA_HOST = 103
 };
 
 /* A value is two numbers: its cell's tag + 2^32 * number, and its payload. */
@@ -49,6 +57,12 @@ typedef struct {
     uint32_t code;
     uint64_t low, high;
 } lucia_got;
+
+/* The answer of a run, and the ticks that it took. */
+typedef struct {
+    uint32_t code;
+    uint32_t ticks;
+} lucia_ran;
 
 /* A part: from 0 of the image, from 1 of the page. */
 typedef struct {
@@ -58,6 +72,9 @@ typedef struct {
 
 /* Loads an image into memory of any content, and gives the outermost closure. */
 lucia_got lucia_load(const uint8_t *image, size_t image_len, uint8_t *state, size_t state_len, const uint8_t *live, size_t live_len, uint8_t *store, size_t store_len);
+
+/* Runs for so many ticks, and charges the 5 bytes of fuel: LUCIA_DONE, LUCIA_OUT_OF_FUEL, LUCIA_PAUSED or LUCIA_HOST, or the number of a refusal. */
+lucia_ran lucia_run(const uint8_t *image, size_t image_len, uint8_t *state, size_t state_len, uint8_t *live, size_t live_len, uint8_t *store, size_t store_len, uint8_t *fuel, size_t fuel_len, uint32_t ticks);
 
 /* Drops frames, result, wait and slice. */
 uint32_t lucia_clear(const uint8_t *image, size_t image_len, uint8_t *state, size_t state_len, const uint8_t *live, size_t live_len, const uint8_t *store, size_t store_len);

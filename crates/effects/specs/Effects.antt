@@ -16,7 +16,7 @@ use Rattle.image.specs.Effects.{sameEffect}
 use Rattle.image.specs.Layout.{field, codeAt}
 use Rattle.image.specs.Parts.{length-tab}
 use Rattle.image.specs.declared.Constant.{Constant}
-use Rattle.program.specs.Every.{tab-past}
+use Rattle.program.specs.Parts.{tab-past}
 use Rattle.machine.specs.Values.{Program, codeOf, constantOf, equalEffects, effectParams, matchEffectHandler}
 use Rattle.scan.specs.Tables.{programIn}
 use Rattle.scan.specs.Values.{code-in}

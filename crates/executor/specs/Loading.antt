@@ -16,7 +16,7 @@ use Rattle.image.specs.Parts.{tab-at, length-tab}
 use Rattle.image.specs.Accepted.{accepted-fine}
 use Rattle.layout.specs.declared.Read.{Read}
 use Rattle.layout.specs.declared.Read.the-variants.{Refused, Accepted}
-use Rattle.program.specs.Reads.{Reads}
+use Rattle.reader.specs.Reads.{Reads}
 use Rattle.image.specs.Image.{parse}
 use Rattle.machine.specs.Values.{Program, closureAt, cell}
 use Rattle.machine.specs.Machine.{used, cost}

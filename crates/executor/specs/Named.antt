@@ -20,7 +20,7 @@ use Rattle.image.specs.declared.Constant.{Constant}
 use Rattle.layout.specs.Reads.{Low}
 use Rattle.layout.specs.declared.Read.{Read}
 use Rattle.layout.specs.declared.Read.the-variants as read
-use Rattle.program.specs.Reads.{Fits}
+use Rattle.reader.specs.Reads.{Fits}
 use Rattle.machine.specs.Values.{Program, constantOf}
 use Rattle.machine.specs.Calls.{isConstant}
 use Rattle.memory.specs.Tests.{valueFits}

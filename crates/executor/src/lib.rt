@@ -3,17 +3,19 @@ ghost use mathlib.Core.Path.{_≡_};
 ghost use mathlib.Core.List.{_++_};
 ghost use Prim.Native.Nat.{_+_, _*_, _-_, _≤_, _<_};
 ghost use lib.ListN.{length, take, drop};
-ghost use Rattle.program.specs.Reads.{Fits};
+ghost use Rattle.reader.specs.Reads.{Fits};
 ghost use Rattle.cells.specs.Cells.{null, room, cells, Writes};
 ghost use Rattle.image.specs.Program.{part};
 ghost use Rattle.image.specs.Image.{parse};
 ghost use Rattle.machine.specs.Calls.{clear, text, bytes, setGlobal, getGlobal, setBuiltin, getBuiltin, lineOf, ofPage};
 ghost use Rattle.scan.specs.Tables.{programIn};
 ghost use Rattle.form.specs.Entry.{entry, storeOf};
+ghost use Rattle.runs.specs.Ran.{RunCalled};
 ghost use Rattle.executor.specs.Asks.{cellOf, gotOf, partOf, gotBy, partBy, Asked, Loaded};
 ghost use Rattle.executor.specs.Steps.{usedIn, foundOf, entryOf, namedIn, namedBy, chosen, reading, Setting, headed, cleared, texting, byting, freshStore, freshState, outermostOf};
 use cells::Cell;
 use layout::Read;
+use runs::Ran;
 
 // A code and a value.
 #[repr(C)]
@@ -410,7 +412,7 @@ fn outermost_of(image: &[u8]) -> Outermost
     let mut rows = [0u32; 2560];
     let mut constants = [0u32; 10923];
     let mut inner = [0u32; 256];
-    match program::read_image(image, &mut rows, &mut constants, &mut inner) {
+    match reader::read_image(image, &mut rows, &mut constants, &mut inner) {
         Read::Refused(n) => Outermost::NotRead(n),
         Read::Accepted(_, _, _) => Outermost::Captures(program::field(&rows, 0, 5)),
     }
@@ -440,6 +442,20 @@ pub extern "C" fn lucia_load(image: &[u8], state: &mut [u8], live: &[u8], store:
             )
         }
     }
+}
+
+#[no_mangle]
+pub extern "C" fn lucia_run(
+    image: &[u8],
+    state: &mut [u8],
+    live: &mut [u8],
+    store: &mut [u8],
+    fuel: &mut [u8],
+    ticks: u32,
+) -> Ran
+    ensures { λ r. ⌜ RunCalled (now (image .entry)) ticks r (now (state .entry)) (now (live .entry)) (now (store .entry)) (now (fuel .entry)) (now (state .exit)) (now (live .exit)) (now (store .exit)) (now (fuel .exit)) ⌝ }
+{
+    runs::run(image, state, live, store, fuel, ticks)
 }
 
 #[no_mangle]

@@ -19,7 +19,7 @@ use Rattle.layout.specs.declared.Read.{Read}
 use Rattle.layout.specs.declared.Read.the-variants.{Refused, Accepted}
 use Rattle.machine.specs.Values.{Program}
 use Rattle.memory.specs.Tests.{inForm}
-use Rattle.program.specs.Reads.{Reads}
+use Rattle.reader.specs.Reads.{Reads}
 use Rattle.scan.specs.Tables.{programIn}
 use Rattle.form.specs.Entry.{liveOf, storeOf, viewOf, heldAnswer, Entered, held, entry, Enters}
 

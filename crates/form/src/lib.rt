@@ -494,7 +494,7 @@ pub fn enter(
     if state.len() != 8256 {
         return Read::Refused(6);
     }
-    match program::read_image(image, rows, constants, inner) {
+    match reader::read_image(image, rows, constants, inner) {
         Read::Refused(n) => Read::Refused(n),
         Read::Accepted(codes, used, kept) => {
             let end = 10 * codes;

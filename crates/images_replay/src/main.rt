@@ -13,7 +13,7 @@ fn answer(buf: &[u8], len: usize) -> bool {
     if len > buf.len() {
         return false;
     }
-    io::print_decimal(1, program::refusal(&buf[..len]) as u64);
+    io::print_decimal(1, reader::refusal(&buf[..len]) as u64);
     io::write_all(1, b"\n")
 }
 

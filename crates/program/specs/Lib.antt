@@ -1,10 +1,4 @@
-pub mod Every
 pub mod Parts
-pub mod Rules
-pub mod RulesLaws
-pub mod CountsLaws
-pub mod CodeLaws
-pub mod Reads
 pub mod Looks
 pub mod Effects
 pub mod Samples

@@ -1,4 +1,4 @@
--- Numbers and parts of a list that are read at any place: what lies past the end counts 0, and a part ends where the list ends.
+-- Numbers, parts, opcodes, captures and constants that are read at any place: what lies past the end counts 0, and a part ends where the list ends.
 use mathlib.Core.Path.{_≡_, refl, sym, ap, _∙_}
 use mathlib.Core.List.{List}
 use Prim.Native.Nat.{ℕ, zero, suc, _+_, _-_, _*_, _<_, _≤_}
@@ -7,7 +7,12 @@ use native.Mathlib.Nat.{add-zero}
 use lib.ListN.{length, getD, take, drop, drop-of-length-le, length-drop, List·getD-eq-default}
 use lib.Seq.{take-all, take-nil}
 use Rattle.cells.specs.Le.{leAt, le-join, limit}
-use Rattle.image.specs.Layout.{field}
+use Rattle.image.specs.Program.{tab}
+use Rattle.image.specs.Parts.{length-tab}
+use Rattle.image.specs.Layout.{field, opcodeAt, captureAt, constantAt}
+use Rattle.image.specs.declared.Op.{Op}
+use Rattle.image.specs.declared.Capture.{Capture}
+use Rattle.image.specs.declared.Constant.{Constant}
 
 -- a number of a table
 pub record Entry (t : List ℕ) (i r : ℕ) : Type 0 where
@@ -16,6 +21,10 @@ pub record Entry (t : List ℕ) (i r : ℕ) : Type 0 where
 
 pub entry-past : (t : List ℕ) (i : ℕ) → length t ≤ i → Entry t i 0
 entry-past t i h = record { is = sym (List·getD-eq-default t 0 h); fits = omega arith }
+
+-- a list by number has no item past its last
+pub tab-past : {A : Type 0} (n : ℕ) (f : ℕ → A) (i : ℕ) (d : A) → n ≤ i → getD (tab n f) i d ≡ d
+tab-past n f i d h = List·getD-eq-default (tab n f) d (omega (arith, length-tab n f))
 
 -- the first column of a row holds the code's place
 pub place-is : (rows : List ℕ) (k : ℕ) {at : ℕ} → Entry rows (10 * k) at → at ≡ field rows k 0
@@ -56,3 +65,13 @@ module _ (s : List ℕ) (at n : ℕ) where
 
   pub rest-inside : take (length s - at) (drop at s) ≡ drop at s
   rest-inside = take-all (length s - at) (drop at s) (simp length-drop (omega arith))
+
+-- ---- what is read at a place
+pub op-is : (s : List ℕ) (at i : ℕ) {a b : ℕ} → a ≡ leAt 2 s (at + 6 * i) → b ≡ leAt 4 s (at + 6 * i + 2) → _≡_ {A = Op} (record { number = a; operand = b }) (opcodeAt s at i)
+op-is s at i p q = λ j. record { number = p j; operand = q j }
+
+pub capture-is : (s : List ℕ) (at i : ℕ) {a b : ℕ} → a ≡ leAt 2 s (at + 4 * i) → b ≡ leAt 2 s (at + 4 * i + 2) → _≡_ {A = Capture} (record { from = a; index = b }) (captureAt s at i)
+capture-is s at i p q = λ j. record { from = p j; index = q j }
+
+pub constant-is : (s : List ℕ) (at : ℕ) {a b c : ℕ} → a ≡ leAt 2 s (at + 4) → b ≡ leAt 4 s at → (c ≡ b) × (c < 4294967296) → _≡_ {A = Constant} (record { kind = a; place = at + 6; size = c }) (constantAt s at)
+constant-is s at p q r = λ j. record { kind = p j; place = at + 6; size = (r .0 ∙ q) j }

@@ -17,7 +17,7 @@ use Rattle.image.specs.Fine.{noConstant}
 use Rattle.image.specs.Layout.{field, codeAt}
 use Rattle.image.specs.Parts.{clash, first, length-tab, tab-at}
 use Rattle.image.specs.declared.Constant.{Constant}
-use Rattle.program.specs.Every.{tab-past}
+use Rattle.program.specs.Parts.{tab-past}
 use Rattle.machine.specs.Values.{Program, codeOf, bytesAt}
 use Rattle.machine.specs.Calls.{isConstant}
 use Rattle.memory.specs.Tests.{objectOf, isNullCell, targetFits, valueFits, effectFits}

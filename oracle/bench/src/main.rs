@@ -12,7 +12,7 @@ use player::{
 };
 
 unsafe extern "C" {
-    /// The number of the image's refusal, 0 for none (crate `program`).
+    /// The number of the image's refusal, 0 for none (crate `reader`).
     fn lucia_refusal(image: *const u8, len: usize) -> u32;
 }
 

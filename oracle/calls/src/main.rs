@@ -7,6 +7,7 @@ mod loads;
 mod near;
 mod odd;
 mod ours;
+mod runs;
 mod trial;
 mod values;
 
@@ -17,6 +18,7 @@ use values::Counts;
 
 const USAGE: &str = "usage: calls loads FROM IMAGES
        calls values FROM LISTS
+       calls runs FROM LISTS
        calls damage FROM CALLS
        calls limits
        calls bench";
@@ -28,6 +30,7 @@ fn main() -> ExitCode {
     let outcome = match args.as_slice() {
         ["loads", from, count] => numbers(from, count).and_then(|(from, count)| loads(from, count)),
         ["values", from, count] => numbers(from, count).and_then(|(from, count)| values(from, count)),
+        ["runs", from, count] => numbers(from, count).and_then(|(from, count)| runs(from, count)),
         ["damage", from, count] => numbers(from, count).and_then(|(from, count)| damage(from, count)),
         ["limits"] => limits(),
         ["bench"] => bench::run(),
@@ -63,6 +66,14 @@ fn values(from: u64, lists: u64) -> Result<(), String> {
     let mut counts = Counts::new();
     (from..from + lists).try_for_each(|seed| values::list(seed, &mut counts))?;
     println!("{lists} lists");
+    print_counts(&counts);
+    Ok(())
+}
+
+fn runs(from: u64, lists: u64) -> Result<(), String> {
+    let (mut counts, mut ticks) = (Counts::new(), 0);
+    (from..from + lists).try_for_each(|seed| runs::list(seed, &mut counts, &mut ticks))?;
+    println!("{lists} lists, {ticks} ticks");
     print_counts(&counts);
     Ok(())
 }

@@ -21,6 +21,12 @@ struct Part {
     len: u64,
 }
 
+#[repr(C)]
+struct Ran {
+    code: u32,
+    ticks: u32,
+}
+
 type Bytes = *const u8;
 type Lent = *mut u8;
 
@@ -28,6 +34,9 @@ type Lent = *mut u8;
 #[rustfmt::skip]
 unsafe extern "C" {
     fn lucia_load(i: Bytes, il: usize, s: Lent, sl: usize, l: Bytes, ll: usize, t: Lent, tl: usize) -> Got;
+    fn lucia_run(
+        i: Bytes, il: usize, s: Lent, sl: usize, l: Lent, ll: usize, t: Lent, tl: usize, f: Lent, fl: usize, ticks: u32,
+    ) -> Ran;
     fn lucia_clear(i: Bytes, il: usize, s: Lent, sl: usize, l: Bytes, ll: usize, t: Bytes, tl: usize) -> u32;
     fn lucia_text(
         i: Bytes, il: usize, s: Bytes, sl: usize, l: Bytes, ll: usize, t: Bytes, tl: usize, page: Bytes, pl: usize,
@@ -64,7 +73,18 @@ impl From<Part> for Answer {
     }
 }
 
-/// One of the eight calls that are exported so far.
+/// A run.
+pub fn run(image: &[u8], memory: &mut Memory, fuel: &mut [u8], ticks: u32) -> Answer {
+    let (i, il) = (image.as_ptr(), image.len());
+    let (s, sl) = (memory.state.as_mut_ptr(), memory.state.len());
+    let (l, ll) = (memory.live.as_mut_ptr(), memory.live.len());
+    let (t, tl) = (memory.store.as_mut_ptr(), memory.store.len());
+    // SAFETY: pointers and lengths are those of slices that live through the call and do not overlap.
+    let Ran { code, ticks } = unsafe { lucia_run(i, il, s, sl, l, ll, t, tl, fuel.as_mut_ptr(), fuel.len(), ticks) };
+    Answer { code, ticks, ..Answer::default() }
+}
+
+/// One of the calls that run nothing and are exported so far.
 pub fn call(image: &[u8], memory: &mut Memory, page: &[u8], call: &Call) -> Answer {
     let (i, il) = (image.as_ptr(), image.len());
     let (s, sl) = (memory.state.as_mut_ptr(), memory.state.len());
@@ -86,7 +106,7 @@ pub fn call(image: &[u8], memory: &mut Memory, page: &[u8], call: &Call) -> Answ
                 Answer::of(lucia_set_builtin(i, il, s, sl, l, ll, t, tl, number, value.low(), value.high()))
             }
             Call::GetBuiltin { number } => lucia_get_builtin(i, il, s, sl, l, ll, t, tl, number).into(),
-            Call::Start { .. } | Call::Run { .. } | Call::Answer { .. } => unreachable!("{call:?} is not exported yet"),
+            Call::Start { .. } | Call::Run { .. } | Call::Answer { .. } => unreachable!("{call:?} is not exported yet, or is a run"),
         }
     }
 }

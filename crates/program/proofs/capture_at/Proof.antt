@@ -1,6 +1,6 @@
 -- `program::capture_at` meets its contract. Assumes nothing.
 use borrow.Author.Needs.{needs}
-use Rattle.program.specs.RulesLaws.{capture-is}
+use Rattle.program.specs.Parts.{capture-is}
 use Rattle.program.proofs.capture_at.Statement.{statement}
 use Rattle.program.proofs.capture_at.Tie as tie
 

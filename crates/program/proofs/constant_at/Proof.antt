@@ -1,6 +1,6 @@
 -- `program::constant_at` meets its contract. Assumes nothing.
 use borrow.Author.Needs.{needs}
-use Rattle.program.specs.RulesLaws.{constant-is}
+use Rattle.program.specs.Parts.{constant-is}
 use Rattle.program.proofs.constant_at.Statement.{statement}
 use Rattle.program.proofs.constant_at.Tie as tie
 

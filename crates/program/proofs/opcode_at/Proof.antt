@@ -1,6 +1,6 @@
 -- `program::opcode_at` meets its contract. Assumes nothing.
 use borrow.Author.Needs.{needs}
-use Rattle.program.specs.RulesLaws.{op-is}
+use Rattle.program.specs.Parts.{op-is}
 use Rattle.program.proofs.opcode_at.Statement.{statement}
 use Rattle.program.proofs.opcode_at.Tie as tie
 

@@ -1,0 +1,48 @@
+-- `closing::close` meets its contract: the kind of the opcode gives its number. Assumes nothing.
+use Rattle.closing.specs.CloseLaws.{closable-call, closable-tail, closes-call, closes-return, closes-tail}
+use borrow.Author.Needs.{needs}
+use Rattle.closing.proofs.close.Statement.{statement}
+use Rattle.closing.proofs.close.Tie as tie
+
+call-requires : tie.Need-call-requires
+call-requires c κs = search closable-call
+
+tail-call-requires : tie.Need-tail-call-requires
+tail-call-requires c κs = search closable-tail
+
+returns : tie.Need-returns
+returns c = search closes-call
+
+returns-2 : tie.Need-returns-2
+returns-2 c = search closes-return
+
+returns-3 : tie.Need-returns-3
+returns-3 c = search closes-tail
+
+pub close-spec : {M : Type 1} → statement M
+close-spec =
+    tie.close
+    (tie.spec
+    (λ c. search needs)
+    call-requires
+    (λ c. search needs)
+    (λ c κs. search needs)
+    (λ c. search needs)
+    tail-call-requires
+    (λ c. search needs)
+    (λ c. search needs)
+    (λ c. search needs)
+    (λ c. search needs)
+    (λ c. search needs)
+    returns
+    (λ c. search needs)
+    (λ c. search needs)
+    (λ c. search needs)
+    (λ c. search needs)
+    returns-2
+    (λ c. search needs)
+    (λ c. search needs)
+    (λ c. search needs)
+    (λ c. search needs)
+    (λ c. search needs)
+    returns-3)

@@ -1,0 +1,25 @@
+-- `closing::judge` meets its contract: a law for each return, over the numbers that the plan leaves. Assumes nothing.
+use Rattle.closing.specs.ActedLaws.{judge-counts, judge-refused, judge-done}
+use borrow.Author.Needs.{needs}
+use Rattle.closing.proofs.judge.Statement.{statement}
+use Rattle.closing.proofs.judge.Tie as tie
+
+counts-after-requires : tie.Need-counts-after-requires
+counts-after-requires c κs = search judge-counts
+
+returns : tie.Need-returns
+returns c = search judge-refused
+
+returns-2 : tie.Need-returns-2
+returns-2 c = search judge-done
+
+pub judge-spec : {M : Type 1} → statement M
+judge-spec =
+    tie.close
+    (tie.spec
+    counts-after-requires
+    (λ c κs. search needs)
+    (λ c κs. search needs)
+    (λ c κs. search needs)
+    returns
+    returns-2)

@@ -1,0 +1,98 @@
+-- The loop of a run, and the charges.
+use mathlib.Core.Path.{_≡_, refl, sym, ap, subst, _∙_}
+use mathlib.Core.List.{List}
+use mathlib.Core.Bool.{Bool, true, false}
+use Prim.Native.Nat.{ℕ, _+_, _-_, _<_, _≤_}
+use native.Mathlib.Omega.{arith}
+use lib.IntN.{ℤ, pos}
+use mir.Syntax.{w32}
+use mir.Val.{toZ}
+use mir.Facts.{toZ-pos}
+use lib.ListN.{length}
+use lib.Dec.{eqb}
+use borrow.Author.Tests.{eqb-true}
+use Rattle.cells.specs.Cells.{cells}
+use Rattle.fuel.specs.Fuels.{consume, should-continue}
+use Rattle.fuel.specs.declared.Fuel.{Fuel}
+use Rattle.image.specs.Records.{if?}
+use Rattle.machine.specs.Values.{Program}
+use Rattle.machine.specs.Machine.{M}
+use Rattle.machine.specs.Calls.{Sizes}
+use Rattle.plan.specs.declared.Counts.{Counts}
+use Rattle.closing.specs.Acted.{Bounded}
+use Rattle.closing.specs.declared.Acted.{Acted}
+use Rattle.closing.specs.declared.Acted.the-variants.{Refused, Done, Failed}
+use Rattle.groups.specs.Grouped.{stood, chargedGroup, actedGroup, Grouped, Groupable, Groups, Runs}
+use Rattle.groups.specs.GroupLaws.{bounded-none, bounded-both, grouped-more, grouped-ran}
+use Rattle.groups.specs.declared.Group.{Group}
+
+-- ---- Charges
+module _ (fuel : Fuel) {f g : Fuel} (cost : ℕ) (le : cost ≤ 64) (a : f ≡ consume fuel (toZ w32 cost)) (b : g ≡ consume f (pos 4)) where
+  both-charged : g ≡ consume (consume fuel (pos cost)) (pos 4)
+  both-charged = b ∙ ap (λ (k : Fuel). consume k (pos 4)) (a ∙ ap (λ (n : ℤ). consume fuel n) (toZ-pos w32 {n = cost} (omega arith)))
+
+  pub charged-on : (ticks : ℕ) {c : Counts} {r : Group} {t : Bool} → t ≡ should-continue g → t ≡ true → r ≡ stood 0 g ticks 64 c → r ≡ chargedGroup fuel cost ticks c
+  unfolding chargedGroup
+  charged-on ticks {c} q o s = let h : should-continue (consume (consume fuel (pos cost)) (pos 4)) ≡ true = ap (λ (k : Fuel). should-continue k) (sym both-charged) ∙ sym q ∙ o in s ∙ rw h (ap (λ (k : Fuel). stood 0 k ticks 64 c) both-charged)
+
+  pub charged-out : (ticks : ℕ) {c : Counts} {r : Group} {t : Bool} → t ≡ should-continue g → t ≡ false → r ≡ stood 101 g ticks 64 c → r ≡ chargedGroup fuel cost ticks c
+  unfolding chargedGroup
+  charged-out ticks {c} q o s = let h : should-continue (consume (consume fuel (pos cost)) (pos 4)) ≡ false = ap (λ (k : Fuel). should-continue k) (sym both-charged) ∙ sym q ∙ o in s ∙ rw h (ap (λ (k : Fuel). stood 101 k ticks 64 c) both-charged)
+
+module _ {a : Acted} {r : Group} (fuel : Fuel) (cost ticks left : ℕ) (c : Counts) where
+  pub acted-refused : {n : ℕ} → a ≡ Refused n → r ≡ stood n fuel ticks left c → r ≡ actedGroup a fuel cost ticks left c
+  acted-refused e s = s ∙ ap (λ (x : Acted). actedGroup x fuel cost ticks left c) (sym e)
+
+  pub acted-done : {after : Counts} → a ≡ Done after → r ≡ chargedGroup fuel cost (ticks - 1) after → r ≡ actedGroup a fuel cost ticks left c
+  acted-done e s = s ∙ ap (λ (x : Acted). actedGroup x fuel cost ticks left c) (sym e)
+
+  pub acted-failed : {after : Counts} → a ≡ Failed after → r ≡ chargedGroup fuel 0 (ticks - 1) after → r ≡ actedGroup a fuel cost ticks left c
+  acted-failed e s = s ∙ ap (λ (x : Acted). actedGroup x fuel cost ticks left c) (sym e)
+
+-- ---- The loop: from the group r₀ the run has come to r
+pub record Looping (P : Program) (r₀ : Group) (state₀ live₀ store₀ starts₀ args₀ : List ℕ) (r : Group) (state live store starts args : List ℕ) : Type 0 where
+  pub more : (z : Sizes) (t : ℕ) (fuel : Fuel) (left : ℕ) (m : M) → Grouped P z t fuel left m r₀ (cells state₀) (cells live₀) (cells store₀) starts₀ → Grouped P z t fuel left m r (cells state) (cells live) (cells store) starts
+  pub next : Groupable P (r .counts) (r .left) state live store starts args
+  pub bounded : Bounded state₀ live₀ store₀ starts₀ state live store starts
+  pub values : length args ≡ length args₀
+
+-- what is left to do falls: a run that is over has none
+unfoldable pub toDo : Group → ℕ
+toDo r = if? (eqb (r .code) 0) (1 + r .ticks) 0
+
+grouped-next : {P : Program} {c : Counts} {fuel : Fuel} {t left : ℕ} {r : Group} {state live store starts args state′ live′ store′ starts′ args′ : List ℕ} → Groupable P c left state live store starts args
+    → Groups P c fuel t left r state live store starts state′ live′ store′ starts′ → length args′ ≡ length args → Groupable P (r .counts) (r .left) state′ live′ store′ starts′ args′
+grouped-next {args = args} f g n =
+    let x = g .acts (f .sizes) (f .machine) (f .resting) (f .low) in
+    record { sizes = f .sizes; machine = x .machine; resting = x .resting; low = x .low; len = g .bounded .sameState .len ∙ f .len; values = omega (arith, n, f .values) }
+
+pub looping-first : {P : Program} {c : Counts} {fuel : Fuel} {t left : ℕ} {r : Group} {state live store starts args state′ live′ store′ starts′ args′ : List ℕ} → Groupable P c left state live store starts args
+    → Groups P c fuel t left r state live store starts state′ live′ store′ starts′ → length args′ ≡ length args → Looping P r state′ live′ store′ starts′ args′ r state′ live′ store′ starts′ args′
+looping-first f g n = record { more = λ z t fuel left m x. x; next = grouped-next f g n; bounded = bounded-none _ _ _ _; values = refl }
+
+module _ {P : Program} {r₀ r r′ : Group} {state₀ live₀ store₀ starts₀ args₀ state live store starts args state′ live′ store′ starts′ : List ℕ} (l : Looping P r₀ state₀ live₀ store₀ starts₀ args₀ r state live store starts args) (e : r .code ≡ 0)
+    (g : Groups P (r .counts) (r .fuel) (r .ticks) (r .left) r′ state live store starts state′ live′ store′ starts′) where
+  pub looping-more : {args′ : List ℕ} → length args′ ≡ length args → Looping P r₀ state₀ live₀ store₀ starts₀ args₀ r′ state′ live′ store′ starts′ args′
+  looping-more n = record {
+    more = λ z t fuel left m x. grouped-more (l .more z t fuel left m x) e g;
+    next = grouped-next (l .next) g n;
+    bounded = bounded-both (l .bounded) (g .bounded);
+    values = n ∙ l .values;
+  }
+
+  pub looping-less : toDo r′ < toDo r
+  unfolding toDo
+  looping-less =
+      let x = g .acts (l .next .sizes) (l .next .machine) (l .next .resting) (l .next .low) in
+      by (eqb (r′ .code) 0) refl (x .falls)
+    where
+      by : (b : Bool) → eqb (r′ .code) 0 ≡ b → (r′ .code ≡ 0 → r′ .ticks < r .ticks) → if? b (1 + r′ .ticks) 0 < if? (eqb (r .code) 0) (1 + r .ticks) 0
+      by true q h = rw e (let k = h (eqb-true (r′ .code) 0 q) in omega arith)
+      by false q h = rw e (omega arith)
+
+pub looping-ran : {P : Program} {c : Counts} {fuel : Fuel} {t left : ℕ} {r₀ r : Group} {state live store starts args args₀ state₀ live₀ store₀ starts₀ state′ live′ store′ starts′ : List ℕ} → Groups P c fuel t left r₀ state live store starts state₀ live₀ store₀ starts₀
+    → Looping P r₀ state₀ live₀ store₀ starts₀ args₀ r state′ live′ store′ starts′ args → (r .code ≡ 0 → ⊥) → Runs P c fuel t left r state live store starts state′ live′ store′ starts′
+looping-ran {fuel = fuel} {t} {left} g l n = record {
+  acts = λ z m x low. grouped-ran (l .more z t fuel left m (g .acts z m x low)) n;
+  bounded = bounded-both (g .bounded) (l .bounded);
+}
