@@ -106,7 +106,9 @@ pub fn call(image: &[u8], memory: &mut Memory, page: &[u8], call: &Call) -> Answ
                 Answer::of(lucia_set_builtin(i, il, s, sl, l, ll, t, tl, number, value.low(), value.high()))
             }
             Call::GetBuiltin { number } => lucia_get_builtin(i, il, s, sl, l, ll, t, tl, number).into(),
-            Call::Start { .. } | Call::Run { .. } | Call::Answer { .. } => unreachable!("{call:?} is not exported yet, or is a run"),
+            Call::Start { .. } | Call::Run { .. } | Call::Answer { .. } => {
+                unreachable!("{call:?} is not exported yet, or is a run")
+            }
         }
     }
 }

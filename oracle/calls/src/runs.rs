@@ -3,8 +3,7 @@
 use player::{
     call::{Answer, Call, Lent, Machine},
     driver::Driver,
-    generate,
-    image,
+    generate, image,
     memory::{read, write},
     random::Random,
     snapshot::Snapshot,
