@@ -23,9 +23,9 @@ use Rattle.memory.specs.Layout.{Holds, storeCells, resultShown, flat}
 use Rattle.memory.specs.StoreLaws.{length-store}
 use Rattle.memory.specs.Exact.{exact-out}
 use Rattle.form.specs.Entry.{Entered, entry, held, heldAnswer, liveOf, storeOf, viewOf}
-use Rattle.executor.specs.Asks.{sizesOf, Leaves, Asked, loading, Loads, Loaded}
-use Rattle.executor.specs.declared.Got.{Got}
-use Rattle.executor.specs.Answers.{ready}
+use Rattle.asks.specs.Asks.{sizesOf, Leaves, Asked, loading, Loads, Loaded}
+use Rattle.asks.specs.declared.Got.{Got}
+use Rattle.asks.specs.Ready.{ready}
 
 -- the program of an accepted entry is that of its image
 held-program : (P : Program) (state live store : List ℕ) (e : Entered) → held P state live store ≡ accepted e → P ≡ e .program

@@ -1,0 +1,66 @@
+-- `readings::text_part` meets its contract. Assumes nothing.
+use Rattle.readings.specs.ReadingLaws.{text-not, text-unknown, text-image, text-page, text-other, message-low}
+use borrow.Author.Needs.{needs}
+use Rattle.readings.proofs.text_part.Statement.{statement}
+use Rattle.readings.proofs.text_part.Tie as tie
+
+entered-with-requires : tie.Need-entered-with-requires
+entered-with-requires c κs = search needs
+
+enum-known-n : tie.Need-enum-known-n
+enum-known-n c = search needs
+
+placed-requires : tie.Need-placed-requires
+placed-requires c κs = search needs
+
+enum-told : tie.Need-enum-told
+enum-told c = search needs
+
+placed-requires-2 : tie.Need-placed-requires-2
+placed-requires-2 c κs = search needs
+
+enum-known-place : tie.Need-enum-known-place
+enum-known-place c = search needs
+
+placed-requires-3 : tie.Need-placed-requires-3
+placed-requires-3 c κs = search needs
+
+message-part-requires : tie.Need-message-part-requires
+message-part-requires c κs = search message-low
+
+placed-requires-4 : tie.Need-placed-requires-4
+placed-requires-4 c κs = search needs
+
+returns : tie.Need-returns
+returns c = search (text-not, text-unknown, text-image, text-page, text-other)
+
+returns-2 : tie.Need-returns-2
+returns-2 c = search (text-not, text-unknown, text-image, text-page, text-other)
+
+returns-3 : tie.Need-returns-3
+returns-3 c = search (text-not, text-unknown, text-image, text-page, text-other)
+
+returns-4 : tie.Need-returns-4
+returns-4 c = search (text-not, text-unknown, text-image, text-page, text-other)
+
+returns-5 : tie.Need-returns-5
+returns-5 c = search (text-not, text-unknown, text-image, text-page, text-other)
+
+pub text-part-spec : {M : Type 1} → statement M
+text-part-spec =
+    tie.close
+    (tie.spec
+    entered-with-requires
+    enum-known-n
+    placed-requires
+    enum-told
+    placed-requires-2
+    enum-known-place
+    placed-requires-3
+    message-part-requires
+    placed-requires-4
+    returns
+    returns-2
+    returns-3
+    returns-4
+    returns-5)
