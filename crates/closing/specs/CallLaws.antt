@@ -4,21 +4,18 @@ use mathlib.Core.List.{List, reverse}
 use mathlib.Core.Bool.{Bool, true, false, not}
 use Prim.Native.Nat.{ℕ, _+_, _-_, _*_, _<_, _≤_}
 use native.Mathlib.Omega.{arith}
-use lib.ListN.{length, getD, take, drop, length-drop, length-reverse}
-use lib.Seq.{paste, take-at, length-take-le}
+use lib.ListN.{length, getD, take, drop, length-reverse}
+use lib.Seq.{paste, length-take-le}
 use borrow.Author.Tests.{lt-ltb, le-ltb, not-true, not-false}
 use Rattle.cells.specs.Cells.{null, room, cells, Sound, Writes}
-use Rattle.cells.specs.CellsLaws.{length-cells}
-use Rattle.cells.specs.Parts.{cells-lent}
-use Rattle.cells.specs.Moves.{paste-is}
 use Rattle.cells.specs.declared.Cell.{Cell}
 use Rattle.image.specs.Records.{both}
 use Rattle.machine.specs.Values.{Program, typeOf, metaUnOperator}
 use Rattle.machine.specs.Machine.{Frame, Object, M, withFrames, functionOf, callFunction}
-use Rattle.machine.specs.Opcodes.{Running, calls, throws, returns, doing, stacked, Taken, takes, refuses, Operands, operands, tooFew, operandsOf, callable, callTaken, opcodeAction, nextAction}
+use Rattle.machine.specs.Opcodes.{Running, calls, throws, doing, stacked, Taken, takes, refuses, Operands, operands, tooFew, operandsOf, callable, callTaken, opcodeAction, nextAction}
 use Rattle.machine.specs.Calls.{Sizes, handlersLeft, outcome, closing, failing, paceOf, isValue}
 use Rattle.memory.specs.Layout.{Written}
-use Rattle.moves.specs.Runs.{Top, Runs, endOf, Settles, top-length, values-there}
+use Rattle.moves.specs.Runs.{Top, Runs, endOf, Settles, top-length}
 use Rattle.moves.specs.declared.Running as registers
 use Rattle.plan.specs.Rest.{Held}
 use Rattle.plan.specs.Plans.{errorOf, Carries}
@@ -27,13 +24,15 @@ use Rattle.plan.specs.declared.Plan.{Plan}
 use Rattle.counts.specs.Counted.{Ready}
 use Rattle.calls.specs.Called.{Callable, CallsFunction}
 use Rattle.slices.specs.SlicedLaws.{pastFrame}
-use Rattle.closing.specs.Acted.{ActedOn, Overable, ActsOver, Belowable, ActsBelow, Acts, Busy, leftOf, Thrown, Failable, Failing, Fails, Opcode, Closable, Closes}
-use Rattle.closing.specs.Left.{top-live, top-room}
-use Rattle.closing.specs.Apart.{call-apart, ready-over}
-use Rattle.closing.specs.ActedLaws.{bounded-settled}
-use Rattle.closing.specs.BusyLaws.{acted-acts, ready-under, busy-place, busy-next, busy-stack, busy-value, busy-left, busy-changed, busy-held, busy-gone, busy-held-under, busy-handlers, busy-handlers-under, busy-sizes, busy-small, busy-room, busy-settles, busy-rests}
-use Rattle.closing.specs.declared.Acted.{Acted}
-use Rattle.closing.specs.declared.Acted.the-variants.{Refused, Done, Failed}
+use Rattle.acts.specs.Acted.{ActedOn, Overable, ActsOver, Belowable, ActsBelow, Acts, Busy, leftOf, Thrown, Failable, Failing, Fails, Opcode}
+use Rattle.closing.specs.Closed.{Closable, Closes}
+use Rattle.acts.specs.Operands.{args-are}
+use Rattle.acts.specs.Left.{top-live, top-room}
+use Rattle.acts.specs.Apart.{call-apart, ready-over}
+use Rattle.acts.specs.ActedLaws.{bounded-settled}
+use Rattle.acts.specs.BusyLaws.{acted-acts, ready-under, busy-place, busy-next, busy-stack, busy-value, busy-left, busy-changed, busy-held, busy-gone, busy-held-under, busy-handlers, busy-handlers-under, busy-sizes, busy-small, busy-room, busy-settles, busy-rests}
+use Rattle.acts.specs.declared.Acted.{Acted}
+use Rattle.acts.specs.declared.Acted.the-variants.{Refused, Done, Failed}
 
 -- ---- The two calls: 36 keeps its frame, 38 does not
 abbrev pub numberOf : Bool → ℕ
@@ -69,17 +68,6 @@ taken-calls s kept left f args rest o e h = rw (e, h) refl
 taken-throws : (s : List Object) (kept left : List Cell → List Frame) (f : Cell) (args rest : List Cell) (o : Operands) → o ≡ operands f args rest → callable (functionOf s f) ≡ false → callTaken s o kept left ≡ takes (throws (metaUnOperator 0 (typeOf f)) (kept rest))
 unfolding callTaken
 taken-throws s kept left f args rest o e h = rw (e, h) refl
-
--- ---- The arguments, copied: as they stand in memory
--- the first n of a list that they were pasted into
-pasted : (a x : List Cell) (n : ℕ) → n ≤ length x → take n (paste a 0 x n) ≡ take n x
-pasted a x n le = ap (take n) (paste-is a 0 x n) ∙ take-at (take n x) _ n (length-take-le n x le)
-
-pub args-are : {w : Written} {pre : List Cell} {g : registers.Running} (live : List ℕ) (n : ℕ) {e : ℕ} {args args₁ : List ℕ} → Top w pre g (cells live) → n ≤ g .stack → e ≡ endOf g → Writes args (paste (cells args) 0 (drop (e - n) (cells live)) n) args₁
-    → cells (take (16 * n) args₁) ≡ reverse (take n (w .stack))
-args-are live n {e} {args} {args₁} t le q x =
-    let k : n ≤ length (drop (e - n) (cells live)) = omega (arith, length-drop (e - n) (cells live), length-cells live, top-room live t .0, q) in
-    cells-lent args₁ n ∙ ap (take n) (x .cells) ∙ pasted (cells args) (drop (e - n) (cells live)) n k ∙ ap (λ (i : ℕ). take n (drop (i - n) (cells live))) q ∙ values-there t n le
 
 -- ---- A call of the running frame: what is next
 module _ {P : Program} {z : Sizes} {m : M} {g : registers.Running} {u frames : ℕ} {B L S : List Cell} {starts : List ℕ} (b : Busy P z m g u frames B L S starts) (keeps : Bool) {x : ℕ} (o : Opcode (b .frame) (b .inside .place) (numberOf keeps) x) where

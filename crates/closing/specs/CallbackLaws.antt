@@ -9,7 +9,7 @@ use Rattle.cells.specs.Cells.{null, room, cells, Sound, Writes}
 use Rattle.cells.specs.CellsLaws.{length-cells}
 use Rattle.cells.specs.declared.Cell.{Cell}
 use Rattle.machine.specs.Values.{Program}
-use Rattle.machine.specs.Machine.{Frame, effectCallback, running, unhandled, M, withFrames, used, performEffect}
+use Rattle.machine.specs.Machine.{Frame, effectCallback, unhandled, M, withFrames, used, performEffect}
 use Rattle.machine.specs.Opcodes.{performs, doing, takes, nextAction}
 use Rattle.machine.specs.Calls.{Sizes, handlersLeft, paceOf}
 use Rattle.memory.specs.Layout.{Written, written, flat, resultShown}
@@ -24,11 +24,12 @@ use Rattle.plan.specs.declared.Counts.{Counts}
 use Rattle.plan.specs.declared.Plan.{Plan}
 use Rattle.calls.specs.Called.{Performs}
 use Rattle.calls.specs.declared.Cause.the-variants.{Performed}
-use Rattle.closing.specs.Acted.{roomsOf, Gone, ActedOn, Belowable, ActsBelow, Resting, Callback, Callbackable, PerformsCallback}
-use Rattle.closing.specs.Left.{lower-under, top-live, top-room, held-under}
-use Rattle.closing.specs.BusyLaws.{acted-acts, ready-under}
-use Rattle.closing.specs.CallLaws.{args-are}
-use Rattle.closing.specs.declared.Acted.{Acted}
+use Rattle.acts.specs.Acted.{roomsOf, Gone, ActedOn, Belowable, ActsBelow, Resting}
+use Rattle.closing.specs.Closed.{Callback, Callbackable, PerformsCallback}
+use Rattle.acts.specs.Left.{lower-under, top-live, top-room, held-under}
+use Rattle.acts.specs.BusyLaws.{acted-acts, ready-under}
+use Rattle.acts.specs.Operands.{args-are}
+use Rattle.acts.specs.declared.Acted.{Acted}
 
 -- the second cell of a frame
 top-subject : {w : Written} {pre : List Cell} {g : Running} {L : List Cell} → Top w pre g L → getD L (g .base + 1) null ≡ w .subject

@@ -6,8 +6,8 @@ use Rattle.machine.specs.Values.{Program}
 use Rattle.moves.specs.declared.Running as registers
 use Rattle.steps.specs.declared.Closing.{Closing}
 use Rattle.steps.specs.declared.Closing.the-variants.{Call, Return, ReturnCall}
-use Rattle.closing.specs.Acted.{closingNumber, Closable, Closes}
-use Rattle.closing.specs.declared.Acted.{Acted}
+use Rattle.closing.specs.Closed.{closingNumber, Closable, Closes}
+use Rattle.acts.specs.declared.Acted.{Acted}
 
 module _ {P : Program} {frames u : ℕ} {g : registers.Running} {x : ℕ} {state live store starts : List ℕ} {k : Closing} where
   module _ {args : List ℕ} where

@@ -18,12 +18,13 @@ use Rattle.moves.specs.declared.Running as registers
 use Rattle.plan.specs.Plans.{Carries}
 use Rattle.plan.specs.declared.Plan.{Plan}
 use Rattle.calls.specs.Called.{ReturnsValue}
-use Rattle.closing.specs.Acted.{ActedOn, Belowable, ActsBelow, Busy, Returnable, Closes}
-use Rattle.closing.specs.Left.{top-live, top-room}
-use Rattle.closing.specs.ActedLaws.{some, bounded-settled}
-use Rattle.closing.specs.BusyLaws.{acted-acts, ready-under, busy-place, busy-next, busy-stack, busy-gone, busy-held-under, busy-sizes, busy-small, busy-settles, busy-rests}
-use Rattle.closing.specs.declared.Acted.{Acted}
-use Rattle.closing.specs.declared.Acted.the-variants.{Refused}
+use Rattle.acts.specs.Acted.{ActedOn, Belowable, ActsBelow, Busy}
+use Rattle.closing.specs.Closed.{Returnable, Closes}
+use Rattle.acts.specs.Left.{top-live, top-room}
+use Rattle.acts.specs.ActedLaws.{some, bounded-settled}
+use Rattle.acts.specs.BusyLaws.{acted-acts, ready-under, busy-place, busy-next, busy-stack, busy-gone, busy-held-under, busy-sizes, busy-small, busy-settles, busy-rests}
+use Rattle.acts.specs.declared.Acted.{Acted}
+use Rattle.acts.specs.declared.Acted.the-variants.{Refused}
 
 return-is : (P : Program) (m : M) (r : Running) (x : ℕ) → opcodeAction P m r 37 x ≡ withTop (r .stack) (λ (v : Cell) (st : List Cell). returns v (r .below))
 unfolding opcodeAction both

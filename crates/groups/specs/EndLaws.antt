@@ -19,9 +19,11 @@ use Rattle.slices.specs.declared.Slice.{Slice}
 use Rattle.steps.specs.Stepped.{ClosingNumber}
 use Rattle.steps.specs.declared.Closing.{Closing}
 use Rattle.steps.specs.declared.Closing.the-variants.{Call, Return, ReturnCall}
-use Rattle.closing.specs.Acted as acted
-use Rattle.closing.specs.Acted.{Bounded, Opcode, closingNumber}
-use Rattle.closing.specs.declared.Acted.{Acted}
+use Rattle.acts.specs.Acted as acted
+use Rattle.closing.specs.Closed as closed
+use Rattle.acts.specs.Acted.{Bounded, Opcode}
+use Rattle.closing.specs.Closed.{closingNumber}
+use Rattle.acts.specs.declared.Acted.{Acted}
 use Rattle.groups.specs.Grouped.{stood, chargedGroup, actedGroup, Finishes}
 use Rattle.groups.specs.GroupedLaws.{grouped-acted, closing-charges, failing-charges}
 use Rattle.groups.specs.FinishLaws.{countsAt, busy-at, room-same, finish-paused, finish-spent, finish-refused, finish-busy, finish-counts}
@@ -82,7 +84,7 @@ module _ {P : Program} {frames n : ℕ} {s : Slice} {fuel : Fuel} {r : Group} {a
     bounded = w .bounded;
   }
 
-  pub finishes-closes : {j : Closing} {x : ℕ} → s .end ≡ Closes j x → acted.Closes P (closingNumber j) frames (s .used) (s .g) x a state live store starts state′ live′ store′ starts′ → r ≡ actedGroup a fuel (s .left) (s .ticks) (s .left) (counted frames n (s .used))
+  pub finishes-closes : {j : Closing} {x : ℕ} → s .end ≡ Closes j x → closed.Closes P (closingNumber j) frames (s .used) (s .g) x a state live store starts state′ live′ store′ starts′ → r ≡ actedGroup a fuel (s .left) (s .ticks) (s .left) (counted frames n (s .used))
       → Finishes P frames s fuel r state live store starts state′ live′ store′ starts′
   unfolding finish-busy busy-at closingNumber
   finishes-closes {j} {x} e w q = record {

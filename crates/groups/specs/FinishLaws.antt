@@ -24,7 +24,7 @@ use Rattle.plan.specs.declared.Counts.{Counts}
 use Rattle.slices.specs.Sliced.{At, Reached, Spends}
 use Rattle.slices.specs.SlicedLaws.{at-ready}
 use Rattle.slices.specs.declared.Slice.{Slice}
-use Rattle.closing.specs.Acted.{Busy, Resting}
+use Rattle.acts.specs.Acted.{Busy, Resting}
 use Rattle.groups.specs.Grouped.{stood, chargedGroup, Around, Grouped}
 use Rattle.groups.specs.GroupedLaws.{pause-ends, grouped-end, grouped-charge, grouped-stop}
 

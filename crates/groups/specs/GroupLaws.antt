@@ -22,8 +22,9 @@ use Rattle.plan.specs.declared.Counts.{Counts}
 use Rattle.slices.specs.Follows.{Follows, follows-none, follows-on}
 use Rattle.slices.specs.Sliced.{Slices}
 use Rattle.slices.specs.declared.Slice.{Slice}
-use Rattle.closing.specs.Acted.{Bounded, Resting, PerformsCallback}
-use Rattle.closing.specs.declared.Acted.{Acted}
+use Rattle.acts.specs.Acted.{Bounded, Resting}
+use Rattle.closing.specs.Closed.{PerformsCallback}
+use Rattle.acts.specs.declared.Acted.{Acted}
 use Rattle.groups.specs.Grouped.{stood, actedGroup, restOf, Grouped, Groups, LuciaGroups, Finishes, Ran}
 use Rattle.groups.specs.GroupedLaws.{done-ends, wait-ends, pause-ends, grouped-end, grouped-acted, alone-charges}
 use Rattle.groups.specs.FinishLaws.{room-same}

@@ -20,9 +20,9 @@ use Rattle.plan.specs.declared.Counts.{Counts}
 use Rattle.slices.specs.Follows.{Follows}
 use Rattle.slices.specs.Sliced.{Ended}
 use Rattle.slices.specs.declared.Slice.{Slice}
-use Rattle.closing.specs.Acted.{Bounded, Resting}
-use Rattle.closing.specs.declared.Acted.{Acted}
-use Rattle.closing.specs.declared.Acted.the-variants.{Refused, Done, Failed}
+use Rattle.acts.specs.Acted.{Bounded, Resting}
+use Rattle.acts.specs.declared.Acted.{Acted}
+use Rattle.acts.specs.declared.Acted.the-variants.{Refused, Done, Failed}
 use Rattle.groups.specs.declared.Group.{Group}
 
 abbrev pub stood : ℕ → Fuel → ℕ → ℕ → Counts → Group

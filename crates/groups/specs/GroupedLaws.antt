@@ -22,9 +22,9 @@ use Rattle.machine.specs.FormLaws.{MachineFits, step-fits}
 use Rattle.plan.specs.Rest.{countsOf}
 use Rattle.plan.specs.declared.Counts.{Counts}
 use Rattle.slices.specs.Follows.{Follows, follows-on, follows-step, follows-stop}
-use Rattle.closing.specs.Acted.{Resting, ActsAs, Acts}
-use Rattle.closing.specs.declared.Acted.{Acted}
-use Rattle.closing.specs.declared.Acted.the-variants.{Refused, Done, Failed}
+use Rattle.acts.specs.Acted.{Resting, ActsAs, Acts}
+use Rattle.acts.specs.declared.Acted.{Acted}
+use Rattle.acts.specs.declared.Acted.the-variants.{Refused, Done, Failed}
 use Rattle.groups.specs.Grouped.{stood, chargedGroup, actedGroup, restOf, Grouped}
 
 module _ (P : Program) (z : Sizes) (fuel : Fuel) (left : ℕ) (m : M) where

@@ -33,7 +33,8 @@ use Rattle.slices.specs.Sliced.{At, Ended, Sliceable, Slices}
 use Rattle.slices.specs.declared.End.{End}
 use Rattle.slices.specs.declared.End.the-variants.{Paused, Spent, Refused, Throws, Closes}
 use Rattle.slices.specs.declared.Slice.{Slice}
-use Rattle.closing.specs.Acted.{Opcode, closingNumber, Failable, Closable, Resting, Callbackable, Thrown}
+use Rattle.acts.specs.Acted.{Opcode, Failable, Resting, Thrown}
+use Rattle.closing.specs.Closed.{closingNumber, Closable, Callbackable}
 use Rattle.groups.specs.Grouped.{Around, Groupable, LuciaGroupable, LuciaTop, Finishable}
 use Rattle.groups.specs.FinishLaws.{busy-at, finish-busy}
 use Rattle.groups.specs.TopLaws.{ResultKind, count-is, next-top, top-fits, callback-next, lucia-next, at-open}

@@ -19,9 +19,9 @@ use Rattle.machine.specs.Values.{Program}
 use Rattle.machine.specs.Machine.{M}
 use Rattle.machine.specs.Calls.{Sizes}
 use Rattle.plan.specs.declared.Counts.{Counts}
-use Rattle.closing.specs.Acted.{Bounded}
-use Rattle.closing.specs.declared.Acted.{Acted}
-use Rattle.closing.specs.declared.Acted.the-variants.{Refused, Done, Failed}
+use Rattle.acts.specs.Acted.{Bounded}
+use Rattle.acts.specs.declared.Acted.{Acted}
+use Rattle.acts.specs.declared.Acted.the-variants.{Refused, Done, Failed}
 use Rattle.groups.specs.Grouped.{stood, chargedGroup, actedGroup, Grouped, Groupable, Groups, Runs}
 use Rattle.groups.specs.GroupLaws.{bounded-none, bounded-both, grouped-more, grouped-ran}
 use Rattle.groups.specs.declared.Group.{Group}

@@ -17,7 +17,8 @@ use Rattle.moves.specs.Objects.{object-there}
 use Rattle.moves.specs.declared.Running as registers
 use Rattle.plan.specs.declared.Counts.{Counts}
 use Rattle.slices.specs.Sliced.{At}
-use Rattle.closing.specs.Acted.{Resting, Callback}
+use Rattle.acts.specs.Acted.{Resting}
+use Rattle.closing.specs.Closed.{Callback}
 use Rattle.groups.specs.Grouped.{LuciaTop}
 
 module _ {P : Program} {z : Sizes} {m : M} {c : Counts} {B L S : List Cell} {starts : List ℕ} (r : Resting P z m c B L S starts) where

@@ -4,7 +4,7 @@ ghost use Prim.Native.Nat.{_≤_, _<_};
 ghost use lib.IntN.{pos};
 ghost use Rattle.scan.specs.Tables.{programIn};
 ghost use Rattle.groups.specs.Grouped.{stood, chargedGroup, actedGroup, Groupable, LuciaGroupable, Groups, LuciaGroups, Finishable, Finishes, Runs};
-use closing::Acted;
+use acts::Acted;
 use fuel::Fuel;
 use plan::Counts;
 use slices::End;
@@ -95,7 +95,7 @@ fn finish(
             stands(n, fuel, s.ticks, s.left, counts)
         }
         End::Throws(h, x) => {
-            let a = closing::fail(
+            let a = acts::fail(
                 image,
                 rows,
                 constants,

@@ -20,7 +20,7 @@ use Rattle.memory.specs.Lists.{length-flat}
 use Rattle.moves.specs.Starts.{Starting, frames-lower}
 use Rattle.plan.specs.Rest.{Same}
 use Rattle.plan.specs.declared.Counts.{Counts}
-use Rattle.closing.specs.Acted.{Resting}
+use Rattle.acts.specs.Acted.{Resting}
 use Rattle.groups.specs.Grouped.{stood, Groupable, Ran, Runs}
 use Rattle.groups.specs.declared.Group.{Group}
 use Rattle.requests.specs.Asked.{roomsOf, Holding, Entered, Leavable, LeavesWorld}

@@ -16,7 +16,7 @@ use Rattle.machine.specs.Machine.{framesCost, resultCost, used}
 use Rattle.machine.specs.Calls.{Sizes, World, world, nothing, ends, runs, run, callOf, answerOf, stepsOf, fuelAfter, worldAfter}
 use Rattle.memory.specs.Layout.{flat, bit, resultShown}
 use Rattle.moves.specs.Starts.{Starting, starting-lower, starting-used}
-use Rattle.closing.specs.Acted.{Resting}
+use Rattle.acts.specs.Acted.{Resting}
 use Rattle.groups.specs.Grouped.{Ran}
 use Rattle.groups.specs.declared.Group.{Group}
 use Rattle.requests.specs.Asked.{roomsOf, Holding, LeavesWorld}

@@ -1,8 +1,8 @@
--- `closing::below` meets its contract: a law for each arm; what `carry` needs is given by its path. Assumes nothing.
-use Rattle.closing.specs.ActedLaws.{below-judges, below-settles, below-carries, below-refused, below-done, below-failed}
+-- `acts::below` meets its contract: a law for each arm; what `carry` needs is given by its path. Assumes nothing.
+use Rattle.acts.specs.ActedLaws.{below-judges, below-settles, below-carries, below-refused, below-done, below-failed}
 use borrow.Author.Needs.{needs}
-use Rattle.closing.proofs.below.Statement.{statement}
-use Rattle.closing.proofs.below.Tie as tie
+use Rattle.acts.proofs.below.Statement.{statement}
+use Rattle.acts.proofs.below.Tie as tie
 
 judge-requires : tie.Need-judge-requires
 judge-requires c κs = search below-judges

@@ -1,8 +1,8 @@
--- `closing::judge` meets its contract: a law for each return, over the numbers that the plan leaves. Assumes nothing.
-use Rattle.closing.specs.ActedLaws.{judge-counts, judge-refused, judge-done}
+-- `acts::judge` meets its contract: a law for each return, over the numbers that the plan leaves. Assumes nothing.
+use Rattle.acts.specs.ActedLaws.{judge-counts, judge-refused, judge-done}
 use borrow.Author.Needs.{needs}
-use Rattle.closing.proofs.judge.Statement.{statement}
-use Rattle.closing.proofs.judge.Tie as tie
+use Rattle.acts.proofs.judge.Statement.{statement}
+use Rattle.acts.proofs.judge.Tie as tie
 
 counts-after-requires : tie.Need-counts-after-requires
 counts-after-requires c κs = search judge-counts

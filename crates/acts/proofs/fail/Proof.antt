@@ -1,8 +1,8 @@
--- `closing::fail` meets its contract: laws of ThrowLaws, one for each need and each return. Assumes nothing.
-use Rattle.closing.specs.ThrowLaws.{fail-lies, fail-ends, fail-over, fail-refused, fail-done, fail-failed}
+-- `acts::fail` meets its contract: laws of ThrowLaws, one for each need and each return. Assumes nothing.
+use Rattle.acts.specs.ThrowLaws.{fail-lies, fail-ends, fail-over, fail-refused, fail-done, fail-failed}
 use borrow.Author.Needs.{needs}
-use Rattle.closing.proofs.fail.Statement.{statement}
-use Rattle.closing.proofs.fail.Tie as tie
+use Rattle.acts.proofs.fail.Statement.{statement}
+use Rattle.acts.proofs.fail.Tie as tie
 
 throw-error-requires : tie.Need-throw-error-requires
 throw-error-requires c κs = search fail-lies

@@ -25,10 +25,10 @@ use Rattle.plan.specs.declared.Counts.{Counts}
 use Rattle.plan.specs.declared.Plan.{Plan}
 use Rattle.counts.specs.Counted.{refusalBy, Ready, Countable}
 use Rattle.actions.specs.Acted.{Roomy, Carriable, CarriesOut}
-use Rattle.closing.specs.Acted.{roomsOf, JudgedAs, Small, Judgeable, Judges, Changed, Gone, Bounded, Overable, ActsOver, Belowable, ActsBelow}
-use Rattle.closing.specs.Left.{begins-other, top-live, top-room, live-rests, held-rests, held-again, held-room, block-left}
-use Rattle.closing.specs.declared.Acted.{Acted}
-use Rattle.closing.specs.declared.Acted.the-variants.{Refused, Done, Failed}
+use Rattle.acts.specs.Acted.{roomsOf, JudgedAs, Small, Judgeable, Judges, Changed, Gone, Bounded, Overable, ActsOver, Belowable, ActsBelow}
+use Rattle.acts.specs.Left.{begins-other, top-live, top-room, live-rests, held-rests, held-again, held-room, block-left}
+use Rattle.acts.specs.declared.Acted.{Acted}
+use Rattle.acts.specs.declared.Acted.the-variants.{Refused, Done, Failed}
 
 -- ---- A plan is judged
 pub some : (n : ℕ) → (n ≡ 0 → ⊥) → 0 < n

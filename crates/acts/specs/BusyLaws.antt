@@ -13,7 +13,7 @@ use Rattle.cells.specs.declared.Cell.{Cell}
 use Rattle.image.specs.Records.{if?}
 use Rattle.machine.specs.Values.{Program}
 use Rattle.machine.specs.Machine.{Handler, Frame, lucia, Object, M, withFrames, handlersOf, used}
-use Rattle.machine.specs.Opcodes.{Running, Action, doing, Taken, takes, opcodeAction, nextAction}
+use Rattle.machine.specs.Opcodes.{Action, doing, Taken, takes, opcodeAction, nextAction}
 use Rattle.machine.specs.Calls.{Sizes, topHandlers, handlersLeft, does, stops, outcome, Pace, paceOf, isValue}
 use Rattle.machine.specs.Demand.{All}
 use Rattle.machine.specs.Form.{FrameFits}
@@ -30,11 +30,11 @@ use Rattle.counts.specs.Counted.{refusalBy, Ready}
 use Rattle.counts.specs.Judged.{judged}
 use Rattle.steps.specs.SteppedLaws.{next-is}
 use Rattle.slices.specs.SlicedLaws.{pastFrame, at-given}
-use Rattle.closing.specs.Acted.{roomsOf, Small, Changed, Gone, ActedOn, Acts, Busy, leftOf, Opcode}
-use Rattle.closing.specs.Left.{top-room, held-over, held-under}
-use Rattle.closing.specs.ActedLaws.{settled-rests}
-use Rattle.closing.specs.declared.Acted.{Acted}
-use Rattle.closing.specs.declared.Acted.the-variants.{Refused, Done, Failed}
+use Rattle.acts.specs.Acted.{roomsOf, Small, Changed, Gone, ActedOn, Acts, Busy, leftOf, Opcode}
+use Rattle.acts.specs.Left.{top-room, held-over, held-under}
+use Rattle.acts.specs.ActedLaws.{settled-rests}
+use Rattle.acts.specs.declared.Acted.{Acted}
+use Rattle.acts.specs.declared.Acted.the-variants.{Refused, Done, Failed}
 
 -- ---- What a judged plan is to the machine
 pub acted-acts : (P : Program) (z : Sizes) (m : M) {pace : Pace} {d : Action} (B L S : List Cell) (starts : List ℕ) (r : Acted) → nextAction P m (m .frames) ≡ takes d → paceOf d ≡ pace → handlersLeft d ≤ 16 → ActedOn z m (doing P d m) r B L S starts → Acts P z m pace r B L S starts

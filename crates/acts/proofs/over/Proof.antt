@@ -1,8 +1,8 @@
--- `closing::over` meets its contract: a law for each arm; what `carry` needs is given by its path. Assumes nothing.
-use Rattle.closing.specs.ActedLaws.{over-judges, over-settles, over-settles-left, over-carries, over-refused, over-done, over-failed}
+-- `acts::over` meets its contract: a law for each arm; what `carry` needs is given by its path. Assumes nothing.
+use Rattle.acts.specs.ActedLaws.{over-judges, over-settles, over-settles-left, over-carries, over-refused, over-done, over-failed}
 use borrow.Author.Needs.{needs}
-use Rattle.closing.proofs.over.Statement.{statement}
-use Rattle.closing.proofs.over.Tie as tie
+use Rattle.acts.proofs.over.Statement.{statement}
+use Rattle.acts.proofs.over.Tie as tie
 
 judge-requires : tie.Need-judge-requires
 judge-requires c κs = search over-judges

@@ -1,4 +1,4 @@
--- What closes a slice, in memory: refused, the machine is at rest as it was; done, the machine that the step leads to is.
+-- A plan judged and carried out, in memory: refused, the machine is at rest as it was; done, the machine that the step leads to is.
 use mathlib.Core.Path.{_≡_}
 use mathlib.Core.List.{List, _∷_}
 use Prim.Native.Nat.{ℕ, _+_, _-_, _<_, _≤_}
@@ -9,9 +9,9 @@ use Rattle.image.specs.Program.{noOp}
 use Rattle.image.specs.Fine.{Accepted}
 use Rattle.machine.specs.Values as v
 use Rattle.machine.specs.Values.{Program}
-use Rattle.machine.specs.Machine.{Frame, effectCallback, M, withFrames, running, used}
+use Rattle.machine.specs.Machine.{Frame, M, withFrames, used}
 use Rattle.machine.specs.Opcodes.{Running, Action, throws, takes, nextAction}
-use Rattle.machine.specs.Calls.{Sizes, does, stops, outcome, Pace, closing, failing, alone, paceOf}
+use Rattle.machine.specs.Calls.{Sizes, does, stops, outcome, Pace, failing, paceOf}
 use Rattle.machine.specs.FormLaws.{MachineFits}
 use Rattle.memory.specs.Layout.{written, flat}
 use Rattle.moves.specs.Runs.{Top}
@@ -23,10 +23,8 @@ use Rattle.plan.specs.declared.Counts.{Counts}
 use Rattle.plan.specs.declared.Error.{Error}
 use Rattle.plan.specs.declared.Plan.{Plan}
 use Rattle.counts.specs.Counted.{refusalBy, Ready}
-use Rattle.steps.specs.declared.Closing as c
-use Rattle.steps.specs.declared.Closing.the-variants.{Call, Return, ReturnCall}
-use Rattle.closing.specs.declared.Acted.{Acted}
-use Rattle.closing.specs.declared.Acted.the-variants.{Refused, Done, Failed}
+use Rattle.acts.specs.declared.Acted.{Acted}
+use Rattle.acts.specs.declared.Acted.the-variants.{Refused, Done, Failed}
 
 abbrev pub roomsOf : List ℕ → List ℕ → Sizes
 roomsOf live store = record { live = room live; store = room store }
@@ -188,33 +186,6 @@ pub record Opcode (r : Running) (p op x : ℕ) : Type 0 where
   pub number : getD (r .code .opcodes) p noOp .number ≡ op
   pub operand : getD (r .code .opcodes) p noOp .operand ≡ x
 
-unfoldable pub closingNumber : c.Closing → ℕ
-closingNumber Call = 36
-closingNumber Return = 37
-closingNumber ReturnCall = 38
-
--- so many bytes that the values of any stack fit into them
-pub record Closable (P : Program) (op frames u : ℕ) (g : registers.Running) (x : ℕ) (state live store starts args : List ℕ) : Type 0 where
-  pub sizes : Sizes
-  pub machine : M
-  pub busy : Busy P sizes machine g u frames (cells state) (cells live) (cells store) starts
-  pub opcode : Opcode (busy .frame) (busy .inside .place) op x
-  pub len : length state ≡ 8256
-  pub values : 65536 ≤ length args
-
-pub record Returnable (frames u : ℕ) (g : registers.Running) (state live store starts : List ℕ) : Type 0 where
-  pub program : Program
-  pub sizes : Sizes
-  pub machine : M
-  pub busy : Busy program sizes machine g u frames (cells state) (cells live) (cells store) starts
-  pub len : length state ≡ 8256
-
-pub record Closes (P : Program) (op frames u : ℕ) (g : registers.Running) (x : ℕ) (r : Acted) (state live store starts state′ live′ store′ starts′ : List ℕ) : Type 0 where
-  pub acts : (z : Sizes) (m : M) (b : Busy P z m g u frames (cells state) (cells live) (cells store) starts) → Opcode (b .frame) (b .inside .place) op x
-      → Acts P z m closing r (cells state′) (cells live′) (cells store′) starts′
-  pub bounded : Bounded state live store starts state′ live′ store′ starts′
-
--- ---- An effect callback
 -- a machine in form at rest
 pub record Resting (P : Program) (z : Sizes) (m : M) (c : Counts) (B L S : List Cell) (starts : List ℕ) : Type 0 where
   pub rests : Rests m c B L S starts
@@ -225,24 +196,3 @@ pub record Resting (P : Program) (z : Sizes) (m : M) (c : Counts) (B L S : List 
   pub small : z .live ≤ 4096
   pub low : z .store < 4294967296
   pub table : length starts ≡ 256
-
--- an effect callback is next
-pub record Callback (m : M) : Type 0 where
-  pub effect : Cell
-  pub stack : List Cell
-  pub handlers : List Cell
-  pub below : List Frame
-  pub frames : m .frames ≡ effectCallback effect stack handlers ∷ below
-  pub running : m .result ≡ running
-
-pub record Callbackable (P : Program) (c : Counts) (state live store starts args : List ℕ) : Type 0 where
-  pub sizes : Sizes
-  pub machine : M
-  pub resting : Resting P sizes machine c (cells state) (cells live) (cells store) starts
-  pub callback : Callback machine
-  pub len : length state ≡ 8256
-  pub values : 65536 ≤ length args
-
-pub record PerformsCallback (P : Program) (c : Counts) (r : Acted) (state live store starts state′ live′ store′ starts′ : List ℕ) : Type 0 where
-  pub acts : (z : Sizes) (m : M) → Resting P z m c (cells state) (cells live) (cells store) starts → Callback m → Acts P z m alone r (cells state′) (cells live′) (cells store′) starts′
-  pub bounded : Bounded state live store starts state′ live′ store′ starts′

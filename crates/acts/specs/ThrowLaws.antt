@@ -9,7 +9,7 @@ use Rattle.cells.specs.CellsLaws.{length-cells}
 use Rattle.cells.specs.declared.Cell.{Cell}
 use Rattle.machine.specs.Values.{Program}
 use Rattle.machine.specs.Machine.{M, withFrames, throwError}
-use Rattle.machine.specs.Opcodes.{doing, throws}
+use Rattle.machine.specs.Opcodes.{doing}
 use Rattle.machine.specs.Calls.{Sizes, handlersLeft, failing, paceOf}
 use Rattle.moves.specs.Runs.{endOf}
 use Rattle.moves.specs.declared.Running as registers
@@ -21,12 +21,12 @@ use Rattle.plan.specs.declared.Error.{Error}
 use Rattle.plan.specs.declared.Plan.{Plan}
 use Rattle.counts.specs.Counted.{Ready}
 use Rattle.calls.specs.Called.{ThrowsError}
-use Rattle.closing.specs.Acted.{ActedOn, Overable, ActsOver, Acts, Busy, Thrown, Failable, Fails}
-use Rattle.closing.specs.Left.{top-room}
-use Rattle.closing.specs.Apart.{throw-apart, ready-over}
-use Rattle.closing.specs.BusyLaws.{acted-acts, busy-place, busy-changed, busy-held, busy-sizes, busy-small, busy-room}
-use Rattle.closing.specs.declared.Acted.{Acted}
-use Rattle.closing.specs.declared.Acted.the-variants.{Refused, Done, Failed}
+use Rattle.acts.specs.Acted.{ActedOn, Overable, ActsOver, Acts, Busy, Thrown, Failable, Fails}
+use Rattle.acts.specs.Left.{top-room}
+use Rattle.acts.specs.Apart.{throw-apart, ready-over}
+use Rattle.acts.specs.BusyLaws.{acted-acts, busy-place, busy-changed, busy-held, busy-sizes, busy-small, busy-room}
+use Rattle.acts.specs.declared.Acted.{Acted}
+use Rattle.acts.specs.declared.Acted.the-variants.{Refused, Done, Failed}
 
 module _ {P : Program} {z : Sizes} {m : M} {g : registers.Running} {u frames : ℕ} {B L S : List Cell} {starts : List ℕ} (b : Busy P z m g u frames B L S starts) {x : Error} {h : registers.Running} (t : Thrown P m (b .frame) x h L) where
   -- the machine over which the error is thrown, and what it leads to

@@ -1,0 +1,8 @@
+-- A plan judged and carried out.
+pub mod Acted
+pub mod Left
+pub mod Apart
+pub mod ActedLaws
+pub mod BusyLaws
+pub mod ThrowLaws
+pub mod Operands
