@@ -2,7 +2,7 @@
 use mathlib.Core.Path.{_≡_, refl, sym, ap, _∙_}
 use mathlib.Core.List.{List}
 use mathlib.Core.Bool.{Bool, true, false}
-use Prim.Native.Nat.{ℕ, _+_, _-_, _<_}
+use Prim.Native.Nat.{ℕ, _+_, _-_, _<_, _≤_}
 use native.Mathlib.Omega.{arith}
 use lib.IntN.{pos}
 use lib.ListN.{getD}
@@ -25,7 +25,7 @@ use Rattle.slices.specs.declared.Slice.{Slice}
 use Rattle.acts.specs.Acted.{Bounded, Resting}
 use Rattle.closing.specs.Closed.{PerformsCallback}
 use Rattle.acts.specs.declared.Acted.{Acted}
-use Rattle.groups.specs.Grouped.{stood, actedGroup, restOf, Grouped, Groups, LuciaGroups, Finishes, Ran}
+use Rattle.groups.specs.Grouped.{stood, actedGroup, restOf, Came, Groups, LuciaGroups, Finishes, Ran}
 use Rattle.groups.specs.GroupedLaws.{done-ends, wait-ends, pause-ends, grouped-end, grouped-acted, alone-charges}
 use Rattle.groups.specs.FinishLaws.{room-same}
 use Rattle.groups.specs.TopLaws.{ResultKind, count-is, empty-done, result-done, next-top, host-waits, other-ready, callback-next, lucia-next, at-open}
@@ -100,22 +100,26 @@ module _ {P : Program} {c : Counts} {fuel : Fuel} {t left : ℕ} {r : Group} {st
 
 -- ---- The loop of a run
 module _ {P : Program} {z : Sizes} {t : ℕ} {fuel : Fuel} {left : ℕ} {m : M} where
-  -- one group more
-  pub grouped-more : {r r′ : Group} {state live store starts state′ live′ store′ starts′ : List ℕ} → Grouped P z t fuel left m r (cells state) (cells live) (cells store) starts → r .code ≡ 0
-      → Groups P (r .counts) (r .fuel) (r .ticks) (r .left) r′ state live store starts state′ live′ store′ starts′ → Grouped P z t fuel left m r′ (cells state′) (cells live′) (cells store′) starts′
+  -- none yet
+  pub came-none : {c : Counts} {B L S : List Cell} {starts : List ℕ} → Resting P z m c B L S starts → left ≤ 64 → Came P z t fuel left m (stood 0 fuel t left c) B L S starts
   unfolding restOf
-  grouped-more {r} {r′} g e h =
+  came-none x low = let e : t - t ≡ 0 = omega arith in record { machine = m; resting = x; less = omega arith; low = low; follows = rw e (follows-none (run P z t fuel left m)) }
+
+  -- one group more
+  pub came-more : {r r′ : Group} {state live store starts state′ live′ store′ starts′ : List ℕ} → Came P z t fuel left m r (cells state) (cells live) (cells store) starts → r .code ≡ 0
+      → Groups P (r .counts) (r .fuel) (r .ticks) (r .left) r′ state live store starts state′ live′ store′ starts′ → Came P z t fuel left m r′ (cells state′) (cells live′) (cells store′) starts′
+  unfolding restOf
+  came-more {r} {r′} g e h =
       let n = h .acts z (g .machine) (g .resting) (g .low) in
       let f : Follows (t - r .ticks) (run P z t fuel left m) (run P z (r .ticks) (r .fuel) (r .left) (g .machine)) = rw e at (g .follows) in
       record {
         machine = n .machine;
         resting = n .resting;
         less = omega (arith, g .less, n .less);
-        falls = λ q. omega (arith, g .less, n .falls q);
         low = n .low;
         follows = follows-on f (n .follows) (omega (arith, g .less, n .less));
       }
 
-  pub grouped-ran : {r : Group} {B L S : List Cell} {starts : List ℕ} → Grouped P z t fuel left m r B L S starts → (r .code ≡ 0 → ⊥) → Ran P z t fuel left m r B L S starts
+  pub came-ran : {r : Group} {B L S : List Cell} {starts : List ℕ} → Came P z t fuel left m r B L S starts → (r .code ≡ 0 → ⊥) → Ran P z t fuel left m r B L S starts
   unfolding restOf
-  grouped-ran {r} g n = record { machine = g .machine; resting = g .resting; less = g .less; over = n; follows = rw (ne-eqb (r .code) 0 n) at (g .follows) }
+  came-ran {r} g n = record { machine = g .machine; resting = g .resting; less = g .less; over = n; follows = rw (ne-eqb (r .code) 0 n) at (g .follows) }

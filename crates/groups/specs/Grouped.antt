@@ -51,6 +51,14 @@ pub record Grouped (P : Program) (z : Sizes) (t : ℕ) (fuel : Fuel) (left : ℕ
   pub low : r .left ≤ 64
   pub follows : Follows (t - r .ticks) (run P z t fuel left m) (restOf P z r machine)
 
+-- the same after any number of groups, none too
+pub record Came (P : Program) (z : Sizes) (t : ℕ) (fuel : Fuel) (left : ℕ) (m : M) (r : Group) (B L S : List Cell) (starts : List ℕ) : Type 0 where
+  pub machine : M
+  pub resting : Resting P z machine (r .counts) B L S starts
+  pub less : r .ticks ≤ t
+  pub low : r .left ≤ 64
+  pub follows : Follows (t - r .ticks) (run P z t fuel left m) (restOf P z r machine)
+
 -- some machine rests
 pub record Groupable (P : Program) (c : Counts) (left : ℕ) (state live store starts args : List ℕ) : Type 0 where
   pub sizes : Sizes

@@ -19,11 +19,11 @@ use Rattle.machine.specs.Values.{Program}
 use Rattle.machine.specs.Machine.{M}
 use Rattle.machine.specs.Calls.{Sizes}
 use Rattle.plan.specs.declared.Counts.{Counts}
-use Rattle.acts.specs.Acted.{Bounded}
+use Rattle.acts.specs.Acted.{Bounded, Resting}
 use Rattle.acts.specs.declared.Acted.{Acted}
 use Rattle.acts.specs.declared.Acted.the-variants.{Refused, Done, Failed}
-use Rattle.groups.specs.Grouped.{stood, chargedGroup, actedGroup, Grouped, Groupable, Groups, Runs}
-use Rattle.groups.specs.GroupLaws.{bounded-none, bounded-both, grouped-more, grouped-ran}
+use Rattle.groups.specs.Grouped.{stood, chargedGroup, actedGroup, Came, Groupable, Groups, Runs}
+use Rattle.groups.specs.GroupLaws.{bounded-none, bounded-both, came-none, came-more, came-ran}
 use Rattle.groups.specs.declared.Group.{Group}
 
 -- ---- Charges
@@ -49,9 +49,9 @@ module _ {a : Acted} {r : Group} (fuel : Fuel) (cost ticks left : ℕ) (c : Coun
   pub acted-failed : {after : Counts} → a ≡ Failed after → r ≡ chargedGroup fuel 0 (ticks - 1) after → r ≡ actedGroup a fuel cost ticks left c
   acted-failed e s = s ∙ ap (λ (x : Acted). actedGroup x fuel cost ticks left c) (sym e)
 
--- ---- The loop: from the group r₀ the run has come to r
+-- ---- The loop: from where r₀ says the run has come to r
 pub record Looping (P : Program) (r₀ : Group) (state₀ live₀ store₀ starts₀ args₀ : List ℕ) (r : Group) (state live store starts args : List ℕ) : Type 0 where
-  pub more : (z : Sizes) (t : ℕ) (fuel : Fuel) (left : ℕ) (m : M) → Grouped P z t fuel left m r₀ (cells state₀) (cells live₀) (cells store₀) starts₀ → Grouped P z t fuel left m r (cells state) (cells live) (cells store) starts
+  pub more : (z : Sizes) (m : M) → Resting P z m (r₀ .counts) (cells state₀) (cells live₀) (cells store₀) starts₀ → r₀ .left ≤ 64 → Came P z (r₀ .ticks) (r₀ .fuel) (r₀ .left) m r (cells state) (cells live) (cells store) starts
   pub next : Groupable P (r .counts) (r .left) state live store starts args
   pub bounded : Bounded state₀ live₀ store₀ starts₀ state live store starts
   pub values : length args ≡ length args₀
@@ -66,15 +66,14 @@ grouped-next {args = args} f g n =
     let x = g .acts (f .sizes) (f .machine) (f .resting) (f .low) in
     record { sizes = f .sizes; machine = x .machine; resting = x .resting; low = x .low; len = g .bounded .sameState .len ∙ f .len; values = omega (arith, n, f .values) }
 
-pub looping-first : {P : Program} {c : Counts} {fuel : Fuel} {t left : ℕ} {r : Group} {state live store starts args state′ live′ store′ starts′ args′ : List ℕ} → Groupable P c left state live store starts args
-    → Groups P c fuel t left r state live store starts state′ live′ store′ starts′ → length args′ ≡ length args → Looping P r state′ live′ store′ starts′ args′ r state′ live′ store′ starts′ args′
-looping-first f g n = record { more = λ z t fuel left m x. x; next = grouped-next f g n; bounded = bounded-none _ _ _ _; values = refl }
+pub looping-first : {P : Program} {c : Counts} {fuel : Fuel} {t left : ℕ} {r : Group} {state live store starts args : List ℕ} → Groupable P c left state live store starts args → r ≡ stood 0 fuel t left c → Looping P r state live store starts args r state live store starts args
+looping-first {state = state} {live} {store} {starts} f e = rw e (record { more = λ z m x low. came-none x low; next = f; bounded = bounded-none state live store starts; values = refl })
 
 module _ {P : Program} {r₀ r r′ : Group} {state₀ live₀ store₀ starts₀ args₀ state live store starts args state′ live′ store′ starts′ : List ℕ} (l : Looping P r₀ state₀ live₀ store₀ starts₀ args₀ r state live store starts args) (e : r .code ≡ 0)
     (g : Groups P (r .counts) (r .fuel) (r .ticks) (r .left) r′ state live store starts state′ live′ store′ starts′) where
   pub looping-more : {args′ : List ℕ} → length args′ ≡ length args → Looping P r₀ state₀ live₀ store₀ starts₀ args₀ r′ state′ live′ store′ starts′ args′
   looping-more n = record {
-    more = λ z t fuel left m x. grouped-more (l .more z t fuel left m x) e g;
+    more = λ z m x low. came-more (l .more z m x low) e g;
     next = grouped-next (l .next) g n;
     bounded = bounded-both (l .bounded) (g .bounded);
     values = n ∙ l .values;
@@ -90,9 +89,6 @@ module _ {P : Program} {r₀ r r′ : Group} {state₀ live₀ store₀ starts�
       by true q h = rw e (let k = h (eqb-true (r′ .code) 0 q) in omega arith)
       by false q h = rw e (omega arith)
 
-pub looping-ran : {P : Program} {c : Counts} {fuel : Fuel} {t left : ℕ} {r₀ r : Group} {state live store starts args args₀ state₀ live₀ store₀ starts₀ state′ live′ store′ starts′ : List ℕ} → Groups P c fuel t left r₀ state live store starts state₀ live₀ store₀ starts₀
-    → Looping P r₀ state₀ live₀ store₀ starts₀ args₀ r state′ live′ store′ starts′ args → (r .code ≡ 0 → ⊥) → Runs P c fuel t left r state live store starts state′ live′ store′ starts′
-looping-ran {fuel = fuel} {t} {left} g l n = record {
-  acts = λ z m x low. grouped-ran (l .more z t fuel left m (g .acts z m x low)) n;
-  bounded = bounded-both (g .bounded) (l .bounded);
-}
+pub looping-ran : {P : Program} {c : Counts} {fuel : Fuel} {t left : ℕ} {r₀ r : Group} {state live store starts args args₀ state₀ live₀ store₀ starts₀ : List ℕ} → r₀ ≡ stood 0 fuel t left c → Looping P r₀ state₀ live₀ store₀ starts₀ args₀ r state live store starts args
+    → (r .code ≡ 0 → ⊥) → Runs P c fuel t left r state₀ live₀ store₀ starts₀ state live store starts
+looping-ran e l n = let k = rw e at l in record { acts = λ z m x low. came-ran (k .more z m x low) n; bounded = k .bounded }

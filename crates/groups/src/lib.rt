@@ -283,22 +283,7 @@ pub fn run(
     requires { ⌜ Groupable (programIn (now image) (now rows) (now constants) (now inner) codes) c left (now state) (now live) (now store) (now starts) (now args) ⌝ }
     ensures { λ r. ⌜ Runs (programIn (now (image .entry)) (now (rows .entry)) (now (constants .entry)) (now (inner .entry)) codes) c fuel ticks left r (now (state .entry)) (now (live .entry)) (now (store .entry)) (now (starts .entry)) (now (state .exit)) (now (live .exit)) (now (store .exit)) (now (starts .exit)) ⌝ }
 {
-    let mut r = run_group(
-        image,
-        rows,
-        constants,
-        inner,
-        codes,
-        state,
-        live,
-        store,
-        starts,
-        args,
-        fuel,
-        ticks,
-        left,
-        c,
-    );
+    let mut r = stands(0, fuel, ticks, left, c);
     while r.code == 0 {
         r = run_group(
             image,

@@ -179,6 +179,16 @@ module _ (P : Program) (g : registers.Running) (op x : ℕ) (old : List ℕ) (lo
       (λ z m r S i. binary-action P m r op x low high ∙ two-some (r .stack) _ (omega (arith, i .runs .counts .stack))
       ∙ (λ j. takes (computed r (drop 2 (r .stack)) (binary P op (sym (t .0 _ _ (i .runs)) j) (sym (s .0 _ _ (i .runs)) j)))))
 
+-- ---- `arithmetic`, whatever the program
+module _ (g : registers.Running) (op x : ℕ) (old : List ℕ) (low : 19 ≤ op) (high : op ≤ 29) where
+  pub arithmetic-stops : g .stack < 2 → (P : Program) → Does P op x g (Stops 12) old old
+  arithmetic-stops l P = binary-stops P g op x old low high l
+
+  pub arithmetic-does : {a b : Cell} {c : Computed} {w : Next} {new : List ℕ} → 2 ≤ g .stack → ((f : Written) (pre : List Cell) → Top f pre g (cells old) → b ≡ getD (f .stack) 0 null) × Sound b
+      → ((f : Written) (pre : List Cell) → Top f pre g (cells old) → a ≡ getD (f .stack) 1 null) × Sound a → ((P : Program) → c ≡ computedOf (binary P op a b)) → ((P : Program) → Operates P g 2 c w old new)
+      → (P : Program) → Does P op x g w old new
+  arithmetic-does l s t q o P = binary-does P g op x old low high l s t (q P) o
+
 -- ---- `type_check`
 module _ (g : registers.Running) (x : ℕ) (old : List ℕ) where
   pub check-stops : g .stack ≡ 0 → (P : Program) → Does P 30 x g (Stops 12) old old

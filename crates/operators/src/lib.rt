@@ -131,7 +131,17 @@ fn equal(
     }
 }
 
-// `Add` is opcode 19 and name 7 of the metamethods, and so on.
+// All but `Eq` and `Ne` take two Ints. `Add` is opcode 19 and name 7 of the metamethods, and so on.
+fn on_ints(op: u16, a: Cell, b: Cell) -> Computed
+    requires { ⌜ (12 ≤ op) × (op ≡ 24 → ⊥) × (op ≡ 25 → ⊥) ⌝ }
+    ensures { λ r. ⌜ ((P : Program) → r ≡ computedOf (binary P op a b)) ⌝ }
+{
+    if a.tag == 2 && b.tag == 2 {
+        return of_ints(op, a.payload, b.payload);
+    }
+    Computed::Fails(meta_bin_operator(op as u32 - 12, values::type_of(a), values::type_of(b)))
+}
+
 fn binary_of(
     image: &[u8],
     rows: &[u32],
@@ -161,10 +171,7 @@ fn binary_of(
             !equal(image, rows, constants, inner, codes, a, b),
         ));
     }
-    if a.tag == 2 && b.tag == 2 {
-        return of_ints(op, a.payload, b.payload);
-    }
-    Computed::Fails(meta_bin_operator(op as u32 - 12, values::type_of(a), values::type_of(b)))
+    on_ints(op, a, b)
 }
 
 // What an operator gives takes the place of its n operands, or its error is thrown.
@@ -223,6 +230,19 @@ pub fn binary(
         2,
         binary_of(image, rows, constants, inner, codes, op, a, b),
     )
+}
+
+// The same of those that take two Ints, which need nothing of the image.
+pub fn arithmetic(live: &mut [u8], g: Running, op: u16, x: u32) -> Next
+    requires { ⌜ (endOf g ≤ room (now live)) × (19 ≤ op) × (op ≤ 29) × (op ≡ 24 → ⊥) × (op ≡ 25 → ⊥) ⌝ }
+    ensures { λ n. ⌜ ((P : Program) → Does P op x g n (now (live .entry)) (now (live .exit))) ⌝ }
+{
+    if g.stack < 2 {
+        return Next::Stops(12);
+    }
+    let b = moves::top(live, g, 0);
+    let a = moves::top(live, g, 1);
+    computed(live, g, 2, on_ints(op, a, b))
 }
 
 // 30 `TypeCheck`.

@@ -122,7 +122,7 @@ module _ {P : Program} {op x : ℕ} {g : registers.Running} {n : Next} {live : L
   nop-does e d = does-as e (d P x live)
 
 -- ---- 6 `LoadConst`
-abbrev loadConst : ℕ → Op
+abbrev pub loadConst : ℕ → Op
 loadConst x = record { number = 6; operand = x }
 
 module _ (image rows constants inner : List ℕ) (codes : ℕ) {g : registers.Running} {handle code u x : ℕ} {live store : List ℕ} (y : ReadyWith (programIn image rows constants inner codes) g handle code u (loadConst x) live store) where
@@ -172,7 +172,7 @@ module _ (image rows constants inner : List ℕ) (codes : ℕ) {g : registers.Ru
       stays-steps state u s r
 
 -- ---- Opcodes that make an object or set a global
-load-const-is : (o : Op) → o .number ≡ 6 → o ≡ loadConst (o .operand)
+pub load-const-is : (o : Op) → o .number ≡ 6 → o ≡ loadConst (o .operand)
 load-const-is o e = λ j. record { number = e j; operand = o .operand }
 
 module _ {P : Program} {g : registers.Running} {handle code u : ℕ} {o : Op} {live store : List ℕ} where

@@ -4,3 +4,4 @@ pub mod SteppedLaws
 pub mod Numbers
 pub mod Needed
 pub mod Families
+pub mod Quickly

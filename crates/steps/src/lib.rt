@@ -8,6 +8,7 @@ ghost use Rattle.moves.specs.Runs.{endOf};
 ghost use Rattle.scan.specs.Tables.{programIn};
 ghost use Rattle.plan.specs.Inside.{Does};
 ghost use Rattle.steps.specs.declared.Family.the-variants.{OnStack, Computes, Moves, Makes};
+ghost use Rattle.steps.specs.Quickly.{quickNext, Quickly};
 ghost use Rattle.steps.specs.Stepped.{Chosen, Ready, ReadyWith, Steps, StaysOn, afterNext, afterMade};
 use image::Op;
 use makes::Made;
@@ -73,6 +74,13 @@ pub enum After {
     Throws(Running, Error),
     Stops(u32),
     Closing(Closing),
+}
+
+// How an opcode ends that is done at once: `Other` has written nothing.
+pub enum Quick {
+    Goes(Running),
+    Jumps(Running),
+    Other,
 }
 
 // What an opcode does is chosen by its number.
@@ -305,8 +313,8 @@ fn making_opcode(
     }
 }
 
-// One opcode of the frame in registers, whose place is already past it.
-pub fn step(
+// Any opcode, by its family.
+fn general(
     image: &[u8],
     rows: &[u32],
     constants: &[u32],
@@ -369,5 +377,148 @@ pub fn step(
         ),
         Family::Closes(k) => After::Closing(k),
         Family::LeftOut => After::Stops(3),
+    }
+}
+
+// A step that throws or stops has written nothing: it is left to `step`.
+fn quick_next(n: Next) -> Quick
+    ensures { λ r. ⌜ r ≡ quickNext n ⌝ }
+{
+    match n {
+        Next::Goes(g) => Quick::Goes(g),
+        Next::Jumps(g) => Quick::Jumps(g),
+        Next::Throws(_, _) => Quick::Other,
+        Next::Stops(_) => Quick::Other,
+    }
+}
+
+// 6 `LoadConst` of an Int.
+fn quick_const(
+    image: &[u8],
+    rows: &[u32],
+    constants: &[u32],
+    inner: &[u32],
+    codes: usize,
+    live: &mut [u8],
+    store: &[u8],
+    g: Running,
+    handle: usize,
+    code: usize,
+    used: usize,
+    x: u32,
+) -> Quick
+    requires { ⌜ ReadyWith (programIn (now image) (now rows) (now constants) (now inner) codes) g handle code used (record { number = 6; operand = x }) (now live) (now store) ⌝ }
+    ensures { λ r. ⌜ Quickly (programIn (now (image .entry)) (now (rows .entry)) (now (constants .entry)) (now (inner .entry)) codes) g handle code (record { number = 6; operand = x }) r (now (live .entry)) (now (store .entry)) (now (live .exit)) ⌝ }
+{
+    let c = program::constant(image, rows, constants, code, x as usize);
+    if c.kind == 18 {
+        return quick_next(loads::load_const(image, live, g, code as u32, x, c));
+    }
+    Quick::Other
+}
+
+// The opcodes that a loop of arithmetic is made of, each in the case that goes on: so few that a loop over them stays in the processor's registers. Any other case is left to `step`.
+pub fn quick_step(
+    image: &[u8],
+    rows: &[u32],
+    constants: &[u32],
+    inner: &[u32],
+    codes: usize,
+    live: &mut [u8],
+    store: &[u8],
+    g: Running,
+    handle: usize,
+    code: usize,
+    used: usize,
+    o: Op,
+) -> Quick
+    requires { ⌜ ReadyWith (programIn (now image) (now rows) (now constants) (now inner) codes) g handle code used o (now live) (now store) ⌝ }
+    ensures { λ r. ⌜ Quickly (programIn (now (image .entry)) (now (rows .entry)) (now (constants .entry)) (now (inner .entry)) codes) g handle code o r (now (live .entry)) (now (store .entry)) (now (live .exit)) ⌝ }
+{
+    let op = o.number;
+    let x = o.operand;
+    match op {
+        0 => quick_next(loads::pop(g)),
+        3 => quick_next(loads::load_local(live, g, x)),
+        6 => quick_const(
+            image,
+            rows,
+            constants,
+            inner,
+            codes,
+            live,
+            store,
+            g,
+            handle,
+            code,
+            used,
+            x,
+        ),
+        7 => quick_next(loads::store_local(live, g, x)),
+        19 => quick_next(operators::arithmetic(live, g, 19, x)),
+        20 => quick_next(operators::arithmetic(live, g, 20, x)),
+        21 => quick_next(operators::arithmetic(live, g, 21, x)),
+        26 => quick_next(operators::arithmetic(live, g, 26, x)),
+        27 => quick_next(operators::arithmetic(live, g, 27, x)),
+        28 => quick_next(operators::arithmetic(live, g, 28, x)),
+        29 => quick_next(operators::arithmetic(live, g, 29, x)),
+        40 => quick_next(jumps::jump(g, 40, x)),
+        41 => quick_next(jumps::jump(g, 41, x)),
+        45 => quick_next(jumps::pop_jump_if(live, g, 45, x)),
+        46 => quick_next(jumps::pop_jump_if(live, g, 46, x)),
+        _ => Quick::Other,
+    }
+}
+
+// One opcode of the frame in registers, whose place is already past it.
+pub fn step(
+    image: &[u8],
+    rows: &[u32],
+    constants: &[u32],
+    inner: &[u32],
+    codes: usize,
+    state: &mut [u8],
+    live: &mut [u8],
+    store: &mut [u8],
+    g: Running,
+    handle: usize,
+    code: usize,
+    used: usize,
+    o: Op,
+) -> After
+    requires { ⌜ ReadyWith (programIn (now image) (now rows) (now constants) (now inner) codes) g handle code used o (now live) (now store) × (length (now state) ≡ 8256) ⌝ }
+    ensures { λ r. ⌜ Steps (programIn (now (image .entry)) (now (rows .entry)) (now (constants .entry)) (now (inner .entry)) codes) g handle code used o r (now (state .entry)) (now (live .entry)) (now (store .entry)) (now (state .exit)) (now (live .exit)) (now (store .exit)) ⌝ }
+{
+    match quick_step(
+        image,
+        rows,
+        constants,
+        inner,
+        codes,
+        live,
+        store,
+        g,
+        handle,
+        code,
+        used,
+        o,
+    ) {
+        Quick::Goes(h) => After::On(h, used),
+        Quick::Jumps(h) => After::Jumped(h),
+        Quick::Other => general(
+            image,
+            rows,
+            constants,
+            inner,
+            codes,
+            state,
+            live,
+            store,
+            g,
+            handle,
+            code,
+            used,
+            o,
+        ),
     }
 }

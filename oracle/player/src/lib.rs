@@ -15,7 +15,7 @@ pub mod generate;
 pub mod image;
 pub mod image_rows;
 pub mod ints_rows;
-mod link;
+pub mod link;
 pub mod memory;
 pub mod observe;
 pub mod opcode;

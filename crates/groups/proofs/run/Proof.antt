@@ -12,23 +12,20 @@ Inv-loop image rows constants inner codes state₀ live₀ store₀ starts₀ ar
 abbrev μ-loop : tie.MeasureT-loop
 μ-loop image rows constants inner codes state₀ live₀ store₀ starts₀ args₀ ticks left r₀ state live store starts args r = toDo r
 
-run-group-requires : tie.Need-run-group-requires Inv-loop μ-loop
-run-group-requires c κs = search needs
-
 loop-holds : tie.Need-loop-holds Inv-loop μ-loop
-loop-holds c = looping-first (c .before .before .before .before .before .before .before .before .before .before .before .before .before .before .before .before .before .before .before .before .before .before .before .before .before .pre) (c .before .before .before .before .before .before .before .before .before .before .run-group .ensures) (c .before .before .before .before .before .before .before .before .before .before .run-group .kept .1 .1 .1 .1 .1 .1 .1 .1 .1 .0)
+loop-holds c = looping-first (c .before .before .before .before .before .before .before .before .before .before .pre) (c .stands .ensures)
 
-run-group-requires-2 : tie.Need-run-group-requires-2 Inv-loop μ-loop
-run-group-requires-2 c κs = c .before .before .before .before .before .before .before .loop .inv .next
+run-group-requires : tie.Need-run-group-requires Inv-loop μ-loop
+run-group-requires c κs = c .before .before .before .before .before .before .before .loop .inv .next
 
 loop-less : tie.Need-loop-less Inv-loop μ-loop
-loop-less c = looping-less (c .before .before .before .before .before .before .before .before .before .before .before .before .before .before .before .before .before .before .loop .inv) (c .before .before .before .before .before .before .before .before .before .before .before .before .before .before .before .before .if1 .taken) (c .before .before .before .before .before .before .before .before .before .before .run-group2 .ensures)
+loop-less c = looping-less (c .before .before .before .before .before .before .before .before .before .before .before .before .before .before .before .before .before .before .loop .inv) (c .before .before .before .before .before .before .before .before .before .before .before .before .before .before .before .before .if1 .taken) (c .before .before .before .before .before .before .before .before .before .before .run-group .ensures)
 
 loop-again : tie.Need-loop-again Inv-loop μ-loop
-loop-again c = looping-more (c .before .before .before .before .before .before .before .before .before .before .before .before .before .before .before .before .before .before .loop .inv) (c .before .before .before .before .before .before .before .before .before .before .before .before .before .before .before .before .if1 .taken) (c .before .before .before .before .before .before .before .before .before .before .run-group2 .ensures) (c .before .before .before .before .before .before .before .before .before .before .run-group2 .kept .1 .1 .1 .1 .1 .1 .1 .1 .1 .0)
+loop-again c = looping-more (c .before .before .before .before .before .before .before .before .before .before .before .before .before .before .before .before .before .before .loop .inv) (c .before .before .before .before .before .before .before .before .before .before .before .before .before .before .before .before .if1 .taken) (c .before .before .before .before .before .before .before .before .before .before .run-group .ensures) (c .before .before .before .before .before .before .before .before .before .before .run-group .kept .1 .1 .1 .1 .1 .1 .1 .1 .1 .0)
 
 returns : tie.Need-returns Inv-loop μ-loop
-returns c = looping-ran (c .before .before .before .before .before .before .before .before .before .before .before .before .before .run-group .ensures) (c .before .before .loop .inv) (c .if1 .left)
+returns c = looping-ran (c .before .before .before .stands .ensures) (c .before .before .loop .inv) (c .if1 .left)
 
 pub run-spec : {M : Type 1} → statement M
 run-spec =
@@ -36,9 +33,9 @@ run-spec =
     (tie.spec
     Inv-loop
     μ-loop
-    run-group-requires
+    (λ c κs. search needs)
     loop-holds
-    run-group-requires-2
+    run-group-requires
     loop-less
     loop-again
     (λ c. search needs)
