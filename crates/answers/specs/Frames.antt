@@ -10,13 +10,13 @@ use Rattle.cells.specs.Cells.{null, room, cells, Sound, Writes, setPayload}
 use Rattle.cells.specs.CellsLaws.{length-cells}
 use Rattle.cells.specs.declared.Cell.{Cell}
 use Rattle.machine.specs.Values.{cell}
-use Rattle.machine.specs.Machine.{Handler, Frame, host}
+use Rattle.machine.specs.Machine.{Handler, host}
 use Rattle.memory.specs.Layout.{Written, untargeted, written, writtenCells, flat}
 use Rattle.memory.specs.Lists.{set-append-add}
 use Rattle.moves.specs.Runs.{Top, Turns, Stands, Settles, endOf, opened, opened-top, top-length, withHandlers, withCounts, addHandler, clearHandlers}
 use Rattle.moves.specs.Frames.{live-stands, stands-live}
 use Rattle.moves.specs.declared.Running.{Running}
-use Rattle.answers.specs.Answered.{HostFrame, Worded, Handleable, Rehandled}
+use Rattle.answers.specs.Answered.{Worded, Handleable, Rehandled}
 
 -- ---- The word
 module _ (n w : ℕ) (st hs : List Cell) {pre L : List Cell} (b word : ℕ) (o : Stands (written (host n w st hs)) pre L) (e : b ≡ length pre) where
@@ -56,28 +56,13 @@ handling-more : (es : List Cell) (e : Cell) (w : Written) → addHandler e 0 0 (
 handling-more es e w =
     ap (λ (hs : List Handler). withHandlers hs w) (append-assoc (w .handlers) (map untargeted es) _ ∙ ap (λ (hs : List Handler). w .handlers ++ hs) (sym (map-append untargeted es (e ∷ []))))
 
--- the last frame of the live stack
-pub handleable : {base k n w : ℕ} {st hs kept : List Cell} {below : List Frame} (live : List ℕ) → HostFrame base n w st hs below (cells live) → k ≤ length kept → base + 6 + 2 * k + length st ≤ room live
-    → Handleable base k kept live
-handleable {n = n} {w} {st} {hs} {below = below} live o le fits = record {
-  number = n;
-  word = w;
-  stack = st;
-  handlers = hs;
-  before = flat below;
-  stands = live-stands (o .live);
-  begins = o .begins;
-  there = le;
-  fits = fits;
-}
-
 module _ {base n : ℕ} {kept : List Cell} {old : List ℕ} (o : Handleable base n kept old) where
   pub host-fits : base + 6 ≤ room old
   host-fits = omega (arith, o .fits)
 
   module _ {g : Running} (q : (g ≡ opened (cells old) base) × (g .place < 4294967296)) where
-    there : Top (written (host (o .number) (o .word) (o .stack) (o .handlers))) (o .before) g (cells old)
-    there = rw (q .0) (opened-top base (o .stands) (o .begins))
+    there : Top (written (host (o .number) (o .word) (o .stack) (o .handlers))) (flat (o .below)) g (cells old)
+    there = rw (q .0) (opened-top base (live-stands (o .frame .live)) (o .frame .begins))
 
     pub open-fits : endOf g ≤ room old
     open-fits = omega (arith, top-length there, length-cells old)
@@ -89,7 +74,7 @@ module _ {base n : ℕ} {kept : List Cell} {old : List ℕ} (o : Handleable base
         record {
           within = omega arith;
           there = o .there;
-          fits = omega (arith, ap (λ (h : Running). endOf h) (t .0), t .1 .len, o .fits, o .begins, k .base, k .counts .locals, k .counts .stack);
+          fits = omega (arith, ap (λ (h : Running). endOf h) (t .0), t .1 .len, o .fits, o .frame .begins, k .base, k .counts .locals, k .counts .stack);
           place = omega (arith, ap (λ (h : Running). h .place) (t .0), q .1);
           turns = record { top = λ w pre x. subst (λ (v : Written). Top v pre r (cells mid)) (sym (handling-none w)) x; rest = refl; len = refl };
         }
@@ -126,12 +111,10 @@ module _ {n : ℕ} {kept : List Cell} {live₀ : List ℕ} {g₀ : Running} {liv
   unfolding written
   rehandles {base} {old} {new} {h} le q t s =
       let m : j ≡ n = omega (arith, a .within) in
-      let r : (i w : ℕ) (st hs pre : List Cell) → Stands (written (host i w st hs)) pre (cells old) → base ≡ length pre → Stands (written (host i w st (take n kept))) pre (cells new) =
-      λ i w st hs pre o e.
-      let x : Top (written (host i w st hs)) pre h (cells old) = rw (q .0) (opened-top base o e) in
-      subst (λ (k : ℕ). Stands (written (host i w st (take k kept))) pre (cells new)) m (s .stands _ _ (a .turns .top _ _ (t .1 .top _ _ x))) in
       record {
-        stands = r;
-        frame = λ i w st hs below o. record { live = stands-live (r i w st hs (flat below) (live-stands (o .live)) (o .begins)); begins = o .begins };
+        frame = λ i w st hs below o.
+            let x : Top (written (host i w st hs)) (flat below) h (cells old) = rw (q .0) (opened-top base (live-stands (o .live)) (o .begins)) in
+            let y = s .stands _ _ (a .turns .top _ _ (t .1 .top _ _ x)) in
+            record { live = stands-live (subst (λ (k : ℕ). Stands (written (host i w st (take k kept))) (flat below) (cells new)) m y); begins = o .begins };
         same = record { rest = s .rest ∙ a .turns .rest ∙ t .1 .rest; len = s .len ∙ a .turns .len ∙ t .1 .len };
       }

@@ -2,3 +2,5 @@
 pub mod Answered
 pub mod Different
 pub mod Frames
+pub mod LayLaws
+pub mod PutLaws

@@ -1,11 +1,16 @@
 // What an answer of the host does to its callback's frame: the word that it keeps, and the handlers of an answered call.
-ghost use mathlib.Core.Path.{_≡_};
 ghost use Prim.Native.Nat.{_+_, _≤_};
 ghost use Rattle.cells.specs.Cells.{room, cells};
 ghost use Rattle.scan.specs.Tables.{programIn};
-ghost use Rattle.answers.specs.Answered.{Among, Distinct, Worded, Handleable, Rehandled};
+ghost use Rattle.answers.specs.Answered.{Among, Distinct, Worded, Handleable, Rehandled, Layable, Lays, Puttable, PutsHandlers};
 ghost use Rattle.answers.specs.Different.{Keeps};
 use cells::Cell;
+
+// Handlers that are put in: 17 different ones are too many; else where the frame ends then.
+pub enum Put {
+    TooMany,
+    End(usize),
+}
 
 // Is an effect equal to one of the first n that are kept?
 fn among(
@@ -102,4 +107,39 @@ pub fn set_handlers(live: &mut [u8], base: usize, kept: &[u8], n: usize)
         j += 1;
     }
     moves::settle(live, g);
+}
+
+// The frames go into a copy of the live stack that has room for 16 handlers more, with the word in the top one: where each begins, and where they end.
+pub fn lay(live: &[u8], work: &mut [u8], starts: &mut [u32], frames: usize, word: u64) -> usize
+    requires { ⌜ Layable frames (now live) (now work) (now starts) ⌝ }
+    ensures { λ r. ⌜ Lays frames word r (now (live .entry)) (now (work .entry)) (now (starts .entry)) (now (work .exit)) (now (starts .exit)) ⌝ }
+{
+    let end = moves::starts(live, starts, frames);
+    cells::copy(work, 0, live, 0, end);
+    let top = frames - 1;
+    set_word(work, starts[top] as usize, word);
+    end
+}
+
+// The different handlers of an answered call go into its frame, which begins at `base`.
+pub fn put_handlers(
+    image: &[u8],
+    rows: &[u32],
+    constants: &[u32],
+    inner: &[u32],
+    codes: usize,
+    handlers: &[u8],
+    work: &mut [u8],
+    base: usize,
+) -> Put
+    requires { ⌜ Puttable base (now work) ⌝ }
+    ensures { λ r. ⌜ PutsHandlers (programIn (now (image .entry)) (now (rows .entry)) (now (constants .entry)) (now (inner .entry)) codes) base (cells (now (handlers .entry))) r (now (work .entry)) (now (work .exit)) ⌝ }
+{
+    let mut kept = [0u8; 256];
+    let n = distinct(image, rows, constants, inner, codes, handlers, &mut kept);
+    if n == 17 {
+        return Put::TooMany;
+    }
+    set_handlers(work, base, &kept, n);
+    Put::End(moves::end(moves::open(work, base)))
 }

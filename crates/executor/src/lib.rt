@@ -2,6 +2,7 @@
 ghost use mathlib.Core.Path.{_≡_};
 ghost use Rattle.machine.specs.Calls.{clear, text, bytes, setGlobal, getGlobal, setBuiltin, getBuiltin};
 ghost use Rattle.runs.specs.Ran.{RunCalled};
+ghost use Rattle.turns.specs.Turned.{StartCalled, AnswerCalled};
 ghost use Rattle.asks.specs.Asks.{cellOf, gotBy, partBy, Asked, Loaded};
 use asks::Got;
 use asks::Part;
@@ -12,6 +13,21 @@ pub extern "C" fn lucia_load(image: &[u8], state: &mut [u8], live: &[u8], store:
     ensures { λ r. ⌜ Loaded (now (image .entry)) (now (state .entry)) (now (live .entry)) (now (store .entry)) r (now (state .exit)) (now (store .exit)) ⌝ }
 {
     loading::load(image, state, live, store)
+}
+
+#[no_mangle]
+pub extern "C" fn lucia_start(
+    image: &[u8],
+    state: &mut [u8],
+    live: &mut [u8],
+    store: &mut [u8],
+    low: u64,
+    high: u64,
+    args: &[u8],
+) -> u32
+    ensures { λ r. ⌜ StartCalled (now (image .entry)) (cellOf low high) (now (args .entry)) r (now (state .entry)) (now (live .entry)) (now (store .entry)) (now (state .exit)) (now (live .exit)) (now (store .exit)) ⌝ }
+{
+    turns::start(image, state, live, store, asks::cell_of(low, high), args)
 }
 
 #[no_mangle]
@@ -26,6 +42,37 @@ pub extern "C" fn lucia_run(
     ensures { λ r. ⌜ RunCalled (now (image .entry)) ticks r (now (state .entry)) (now (live .entry)) (now (store .entry)) (now (fuel .entry)) (now (state .exit)) (now (live .exit)) (now (store .exit)) (now (fuel .exit)) ⌝ }
 {
     runs::run(image, state, live, store, fuel, ticks)
+}
+
+#[no_mangle]
+pub extern "C" fn lucia_answer(
+    image: &[u8],
+    state: &mut [u8],
+    live: &mut [u8],
+    store: &mut [u8],
+    fuel: &mut [u8],
+    kind: u32,
+    word: u64,
+    low: u64,
+    high: u64,
+    args: &[u8],
+    handlers: &[u8],
+) -> u32
+    ensures { λ r. ⌜ AnswerCalled (now (image .entry)) kind word (cellOf low high) (now (args .entry)) (now (handlers .entry)) r (now (state .entry)) (now (live .entry)) (now (store .entry)) (now (fuel .entry)) (now (state .exit)) (now (live .exit)) (now (store .exit)) (now (fuel .exit)) ⌝ }
+{
+    let subject = asks::cell_of(low, high);
+    turns::answer(
+        image,
+        state,
+        live,
+        store,
+        fuel,
+        kind,
+        word,
+        subject,
+        args,
+        handlers,
+    )
 }
 
 #[no_mangle]

@@ -2,14 +2,14 @@
 use mathlib.Core.Path.{_≡_, refl, sym, ap, _∙_}
 use mathlib.Core.List.{List, _++_, append-assoc}
 use mathlib.Core.Bool.{Bool, false}
-use Prim.Native.Nat.{ℕ, _+_, _-_}
+use Prim.Native.Nat.{ℕ}
 use native.Mathlib.Omega.{arith}
 use lib.ListN.{length}
 use Rattle.cells.specs.Cells.{cells}
 use Rattle.cells.specs.declared.Cell.{Cell}
 use Rattle.machine.specs.Values.{Program, Error, callArguments, unOperator, binOperator, metaUnOperator, metaBinOperator, zeroDivisor, luciaError, luciaPanic}
 use Rattle.machine.specs.Machine.{Result, running, returned, failed, unhandled, M, resultCost, used}
-use Rattle.machine.specs.Calls.{World, world}
+use Rattle.machine.specs.Calls.{stops, World, world}
 use Rattle.machine.specs.Form.{TurnFits, topOf, Top, ofLucia, ofHost, ofEffect, ofNone}
 use Rattle.machine.specs.FormLaws.{MachineFits}
 use Rattle.memory.specs.Layout.{flat, errorShown, resultShown, stateCells, Holds}
@@ -17,7 +17,8 @@ use Rattle.moves.specs.Frames.{Live}
 use Rattle.states.specs.Worlds.{Changes, Counted, Turned, withCounts, withTurn}
 use Rattle.plan.specs.Rest.{Block, Rests}
 use Rattle.plan.specs.declared.Counts.{Counts}
-use Rattle.requests.specs.Asked.{roomsOf, Holding, LeavesWorld}
+use Rattle.requests.specs.Sent.{Sent, sentOutcome}
+use Rattle.requests.specs.Asked.{roomsOf, Holding, LeavesWorld, SentWorld}
 
 -- ---- A world becomes a machine at rest
 pub block-of : (w : World) {B : List Cell} → B ≡ stateCells w → Block (w .machine) B
@@ -86,4 +87,13 @@ rests-holds {m} b left r e = record {
   live = r .live ∙ sym (append-assoc (flat (m .frames)) (resultShown (m .result) .args) (r .free));
   freeStore = r .store .free;
   store = r .store .is;
+}
+
+-- ---- What is sent and refused leaves every byte
+pub sent-refused : {P : Program} {s : Sent} {no : ℕ} {state live store : List ℕ} → ((w : World) → Holding P w state live store → sentOutcome P (roomsOf live store) s w ≡ stops no) → SentWorld P s no state live store state live store
+sent-refused {P} {s} {no} {state} {live} {store} e = record {
+  leaves = λ w h _. rw (e w h) (refl, refl, refl, refl);
+  sameState = record { rest = refl; len = refl };
+  sameLive = record { rest = refl; len = refl };
+  sameStore = record { rest = refl; len = refl };
 }

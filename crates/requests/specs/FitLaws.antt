@@ -23,18 +23,18 @@ use Rattle.memory.specs.StoreLaws.{reads}
 use Rattle.moves.specs.Objects.{Stored}
 use Rattle.requests.specs.Asked.{CalledFits}
 
-both-false : (a : Bool) → both a false ≡ false
+pub both-false : (a : Bool) → both a false ≡ false
 unfolding both
 both-false true = refl
 both-false false = refl
 
-both-true : (a : Bool) → both a true ≡ a
+pub both-true : (a : Bool) → both a true ≡ a
 unfolding both
 both-true true = refl
 both-true false = refl
 
 module _ (P : Program) (S : List Cell) (u : ℕ) where
-  reads-at : (s : List Object) → Stored s S → StoreFits P [] s → u ≡ used s → Reads s S u
+  pub reads-at : (s : List Object) → Stored s S → StoreFits P [] s → u ≡ used s → Reads s S u
   reads-at s h w e = rw e (reads P [] s S (h .free) w (h .is))
 
   module _ (f : Cell) {v : Bool} (e : v ≡ valueFits P S u f) where

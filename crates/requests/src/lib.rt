@@ -1,11 +1,18 @@
 // What the host's requests do once the call is entered: memory in form becomes a machine at rest, and the state block shows it again at the end.
-ghost use mathlib.Core.Path.{_≡_};
 ghost use Prim.Native.Nat.{_≤_, _<_};
 ghost use Rattle.cells.specs.Cells.{room, cells};
 ghost use Rattle.scan.specs.Tables.{programIn};
-ghost use Rattle.requests.specs.Asked.{Entered, Leavable, LeavesWorld, CalledFits, Startable, StartsWorld};
+ghost use Rattle.requests.specs.Sent.{starting};
+ghost use Rattle.requests.specs.Asked.{Entered, Leavable, LeavesWorld, Finishable, Finishes, CalledFits, Startable, SentWorld};
 use cells::Cell;
 use plan::Counts;
+use plan::Plan;
+
+// How a plan ends: with its refusal, or 0 and the cells of the live stack that are used then.
+pub struct Finished {
+    pub refusal: u32,
+    pub live: usize,
+}
 
 // The state block shows counts, slice and wait again.
 pub fn leave(state: &mut [u8], c: Counts, left: u32, wait: u32)
@@ -16,8 +23,38 @@ pub fn leave(state: &mut [u8], c: Counts, left: u32, wait: u32)
     states::set_turn(state, left, wait);
 }
 
+// A plan is judged on so many cells of the live stack, carried out, and the state block shows what it leaves. A refused one leaves every byte.
+pub fn finish(
+    plan: Plan,
+    args: &[u8],
+    state: &mut [u8],
+    live: &mut [u8],
+    store: &mut [u8],
+    starts: &mut [u32],
+    c: Counts,
+    most: usize,
+) -> Finished
+    requires { ⌜ Finishable plan (cells (now args)) c most (now state) (now live) (now store) (now starts) ⌝ }
+    ensures { λ r. ⌜ Finishes plan (cells (now (args .entry))) c most r (now (state .entry)) (now (live .entry)) (now (store .entry)) (now (starts .entry)) (now (state .exit)) (now (live .exit)) (now (store .exit)) ⌝ }
+{
+    let after = counts::counts_after(plan, cells::room(args), live, store, starts, c);
+    let refusal = counts::refusal(after, most, cells::room(store));
+    if refusal != 0 {
+        return Finished {
+            refusal,
+            live: after.live,
+        };
+    }
+    actions::carry(plan, args, state, live, store, starts, c);
+    leave(state, after, 64, 0);
+    Finished {
+        refusal: 0,
+        live: after.live,
+    }
+}
+
 // Is this a Function that exists, with arguments that exist, of which there are, with so many handlers, at most 4,096?
-fn called_fits(
+pub fn called_fits(
     image: &[u8],
     rows: &[u32],
     constants: &[u32],
@@ -56,7 +93,7 @@ fn called_fits(
     )
 }
 
-// A start that passed its tests: it is planned, judged and carried out.
+// A start that passed its tests: it is planned and finished.
 fn begin(
     image: &[u8],
     rows: &[u32],
@@ -71,7 +108,7 @@ fn begin(
     args: &[u8],
 ) -> u32
     requires { ⌜ Startable (programIn (now image) (now rows) (now constants) (now inner) codes) used f (now args) (now state) (now live) (now store) ⌝ }
-    ensures { λ r. ⌜ StartsWorld (programIn (now (image .entry)) (now (rows .entry)) (now (constants .entry)) (now (inner .entry)) codes) f (now (args .entry)) r (now (state .entry)) (now (live .entry)) (now (store .entry)) (now (state .exit)) (now (live .exit)) (now (store .exit)) ⌝ }
+    ensures { λ r. ⌜ SentWorld (programIn (now (image .entry)) (now (rows .entry)) (now (constants .entry)) (now (inner .entry)) codes) (starting f (now (args .entry))) r (now (state .entry)) (now (live .entry)) (now (store .entry)) (now (state .exit)) (now (live .exit)) (now (store .exit)) ⌝ }
 {
     let mut starts = [0u32; 256];
     let c = Counts {
@@ -92,17 +129,12 @@ fn begin(
         f,
         args,
     );
-    let after = counts::counts_after(plan, cells::room(args), live, store, &starts, c);
-    let refusal = counts::refusal(after, cells::room(live), cells::room(store));
-    if refusal != 0 {
-        return refusal;
-    }
-    actions::carry(plan, args, state, live, store, &mut starts, c);
-    leave(state, after, 64, 0);
-    0
+    let most = cells::room(live);
+    let done = finish(plan, args, state, live, store, &mut starts, c, most);
+    done.refusal
 }
 
-// A start: 11 with frames or a result, 5 for what is no Function or no value; then it is planned, judged and carried out.
+// A start: 11 with frames or a result, 5 for what is no Function or no value; then it is planned and finished.
 pub fn start(
     image: &[u8],
     rows: &[u32],
@@ -116,7 +148,7 @@ pub fn start(
     args: &[u8],
 ) -> u32
     requires { ⌜ Entered (programIn (now image) (now rows) (now constants) (now inner) codes) (now state) (now live) (now store) ⌝ }
-    ensures { λ r. ⌜ StartsWorld (programIn (now (image .entry)) (now (rows .entry)) (now (constants .entry)) (now (inner .entry)) codes) f (now (args .entry)) r (now (state .entry)) (now (live .entry)) (now (store .entry)) (now (state .exit)) (now (live .exit)) (now (store .exit)) ⌝ }
+    ensures { λ r. ⌜ SentWorld (programIn (now (image .entry)) (now (rows .entry)) (now (constants .entry)) (now (inner .entry)) codes) (starting f (now (args .entry))) r (now (state .entry)) (now (live .entry)) (now (store .entry)) (now (state .exit)) (now (live .exit)) (now (store .exit)) ⌝ }
 {
     if states::frames(state) != 0 {
         return 11;

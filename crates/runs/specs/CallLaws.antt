@@ -1,166 +1,56 @@
 -- One law for each need and return of a run as a call.
-use mathlib.Core.Path.{_≡_, refl, sym, ap, subst, _∙_}
-use mathlib.Core.List.{List, _++_}
-use mathlib.Core.Bool.{Bool, true, false}
-use Prim.Native.Nat.{ℕ, _+_, _*_, _-_, _≤_}
-use native.Mathlib.Omega.{arith}
-use lib.ListN.{length, getD, take, drop, length-append, take-append-drop, length-take}
-use lib.Dec.{eqb}
-use borrow.Author.Tests.{eqb-true}
-use Rattle.cells.specs.Cells.{null, room, cells}
-use Rattle.cells.specs.CellsLaws.{length-cells}
-use Rattle.cells.specs.Parts.{cells-lent}
+use mathlib.Core.Path.{_≡_, refl, ap, _∙_}
+use mathlib.Core.List.{List}
+use Prim.Native.Nat.{ℕ, _-_, _≤_}
 use Rattle.fuel.specs.Loans.{read, write}
 use Rattle.fuel.specs.declared.Fuel.{Fuel}
 use Rattle.fuel.specs.declared.Loan.{Loan}
 use Rattle.fuel.specs.declared.Loan.the-variants as loan
-use Rattle.image.specs.Records.{if?, Answer, refused, accepted, then}
-use Rattle.image.specs.Program.{Code}
-use Rattle.image.specs.Fine.{Accepted}
-use Rattle.image.specs.Image.{parse}
-use Rattle.image.specs.Accepted.{accepted-fine}
-use Rattle.layout.specs.Reads.{Low}
 use Rattle.layout.specs.declared.Read.{Read}
-use Rattle.layout.specs.declared.Read.the-variants as read
-use Rattle.reader.specs.Reads.{Fits}
-use Rattle.machine.specs.Values.{Program}
+use Rattle.layout.specs.declared.Read.the-variants as reads
 use Rattle.machine.specs.Calls.{Trace, runs, callOf}
-use Rattle.memory.specs.Tests.{inForm}
-use Rattle.memory.specs.Exact.{exact-in}
-use Rattle.scan.specs.Tables.{programIn}
-use Rattle.form.specs.Entry as form
-use Rattle.form.specs.Entry.{entry, held, heldAnswer, liveOf, storeOf, viewOf, Enters}
+use Rattle.form.specs.Entry.{viewOf, Enters}
 use Rattle.groups.specs.declared.Group.{Group}
-use Rattle.requests.specs.Asked.{roomsOf, Holding, Entered}
-use Rattle.runs.specs.Ran.{RunLeaves, RunsLoans, frontLive, frontStore, withFuel, ranOf, sizesOf, RunDone, RunCalled}
+use Rattle.loans.specs.Loans.{frontLive, frontStore, sizesOf}
+use Rattle.loans.specs.LoanLaws.{whole, length-whole}
+use Rattle.loans.specs.EntryLaws.{live-cells, store-cells, front-sizes, tabled, is-ready, un-lent, lent-un-entered, lent-entered}
+use Rattle.runs.specs.Ran.{RunLeaves, RunsLoans, ranOf, RunDone, RunCalled}
 
--- ---- The cells of a front are the cells that are used
-live-cells : (live : List ℕ) → cells (frontLive live) ≡ liveOf live
-live-cells live = cells-lent live 4096
+-- ---- A run that is entered
+module _ (image state live store : List ℕ) {x : Read} {rows constants inner : List ℕ} (y : Enters image state live store x rows constants inner) {c u k : ℕ} (a : x ≡ reads.Accepted c u k)
+    {t : ℕ} {f : Fuel} {g : Group} {state′ live′ store′ : List ℕ} (r : RunsLoans (tabled image rows constants inner c u k) f t g state live store state′ live′ store′) where
+  abbrev trace : Trace
+  trace = callOf (tabled image rows constants inner c u k) (sizesOf live store) (runs t f) (viewOf state live store)
 
-store-cells : (store : List ℕ) → cells (frontStore store) ≡ storeOf store
-store-cells store = cells-lent store 65536
+  run-leaves : RunLeaves trace t g state′ (frontLive live′) (frontStore store′)
+  run-leaves = let h = is-ready image state live store y a in rw (← front-sizes live store) (r .runs .leaves (viewOf state live store) (h .0 .holding) (h .1))
 
-front-sizes : (live store : List ℕ) → roomsOf (frontLive live) (frontStore store) ≡ sizesOf live store
-front-sizes live store =
-    let a : room (frontLive live) ≡ length (liveOf live) = sym (length-cells (frontLive live)) ∙ ap length (live-cells live) in
-    let b : room (frontStore store) ≡ length (storeOf store) = sym (length-cells (frontStore store)) ∙ ap length (store-cells store) in
-    λ j. record { live = a j; store = b j }
+  -- no more ticks are left than were given
+  pub call-most : g .ticks ≤ t
+  call-most = run-leaves .most
 
--- ---- What an accepted entry says of memory
-record Ready (e : form.Entered) (state live store : List ℕ) : Type 0 where
-  size : length state ≡ 8256
-  holding : Holding (e .program) (e .world) state (frontLive live) (frontStore store)
-
-held-ready : (P : Program) (state live store : List ℕ) (e : form.Entered) → length state ≡ 8256 → held P state live store ≡ accepted e → (e .program ≡ P) × Ready e state live store
-unfolding held heldAnswer
-held-ready P state live store e s h = by (eqb (getD (cells state) 0 null .tag) 1) refl (inForm P (storeOf store) (cells state) (liveOf live)) refl h
-  where
-    by : (a : Bool) → eqb (getD (cells state) 0 null .tag) 1 ≡ a → (b : Bool) → inForm P (storeOf store) (cells state) (liveOf live) ≡ b
-        → if? (eqb (if? a (if? b 0 7) 10) 0) (accepted (record { program = P; world = viewOf state live store })) (refused (if? a (if? b 0 7) 10)) ≡ accepted e → (e .program ≡ P) × Ready e state live store
-    by true p true q h =
-        let x = exact-in P (cells state) (liveOf live) (storeOf store) (length-cells state ∙ omega arith) (eqb-true _ 1 p) q in
-        let y : record { program = P; world = viewOf state live store } ≡ e = cc in
-        let r : Ready (record { program = P; world = viewOf state live store }) state live store =
-        record { size = s; holding = record { holds = rw (live-cells live, store-cells store) (x .0); fits = rw (front-sizes live store) (x .1) } } in
-        (ap (λ (k : form.Entered). k .program) (sym y), subst (λ (k : form.Entered). Ready k state live store) y r)
-    by true p false q h = let z : _≡_ {A = ℕ} 0 1 = cc in absurd (omega arith)
-    by false p b q h = let z : _≡_ {A = ℕ} 0 1 = cc in absurd (omega arith)
-
-ready : (image state live store : List ℕ) (e : form.Entered) → entry image state live store ≡ accepted e → Ready e state live store × Accepted (e .program .image) (e .program .codes)
-unfolding entry
-ready image state live store e h = by (eqb (length state) 8256) refl (parse image) refl h
-  where
-    by : (a : Bool) → eqb (length state) 8256 ≡ a → (x : Answer (List Code)) → parse image ≡ x → if? a (then (λ (cs : List Code). held (record { image = image; codes = cs }) state live store) x) (refused 6) ≡ accepted e
-        → Ready e state live store × Accepted (e .program .image) (e .program .codes)
-    by true p (accepted cs) k h =
-        let r = held-ready _ state live store e (eqb-true (length state) 8256 p) h in
-        (r .1, rw (r .0) (accepted-fine image cs k))
-    by true p (refused n) k h = let z : _≡_ {A = ℕ} 0 1 = cc in absurd (omega arith)
-    by false p x k h = let z : _≡_ {A = ℕ} 0 1 = cc in absurd (omega arith)
-
--- ---- A front and what lies behind it are the whole
-whole : (n : ℕ) (s t : List ℕ) → take n t ≡ take n s → drop n t ≡ drop n s → t ≡ s
-whole n s t a b = sym (take-append-drop n t) ∙ (λ j. a j ++ b j) ∙ take-append-drop n s
-
-length-whole : (n : ℕ) (s t : List ℕ) → length (take n t) ≡ length (take n s) → drop n t ≡ drop n s → length t ≡ length s
-length-whole n s t a b =
-    let f : (l : List ℕ) → length l ≡ length (take n l) + length (drop n l) = λ l. ap length (sym (take-append-drop n l)) ∙ length-append (take n l) (drop n l) in
-    omega (arith, f s, f t, a, ap length b)
-
--- ---- An accepted entry: the tables hold a program, and memory a world of it
-front-room : (s : List ℕ) (n : ℕ) → room (take (16 * n) s) ≤ n
-front-room s n = omega (arith, length-cells (take (16 * n) s), ap length (cells-lent s n), length-take n (cells s))
-
-module _ (image state live store : List ℕ) {x : Read} {rows constants inner : List ℕ} (y : Enters image state live store x rows constants inner) {c u k : ℕ} (a : x ≡ read.Accepted c u k) where
-  abbrev tabled : Program
-  tabled = programIn image (take (10 * c) rows) (take u constants) (take k inner) c
-
-  abbrev found : form.Entered
-  found = record { program = tabled; world = viewOf state live store }
-
-  is-entered : entry image state live store ≡ accepted found
-  is-entered = sym (rw a at (y .does))
-
-  is-ready : Ready found state live store × Accepted (tabled .image) (tabled .codes)
-  is-ready = ready image state live store found is-entered
-
-  pub call-enters : Entered tabled state (frontLive live) (frontStore store)
-  call-enters = record {
-    world = viewOf state live store;
-    holding = is-ready .0 .holding;
-    accepted = is-ready .1;
-    small = (front-room live 4096, front-room store 65536);
-    block = is-ready .0 .size;
+  run-done : {fuel fuel′ : List ℕ} → fuel′ ≡ write fuel (g .fuel) → RunDone trace (viewOf state live store .wait) (ranOf (g .code) (t - g .ticks)) state live store fuel state′ live′ store′ fuel′
+  run-done {fuel} z = record {
+    answers = λ j. ranOf (run-leaves .answer j) (run-leaves .taken j);
+    holds = rw (← live-cells live′, ← store-cells store′) (run-leaves .holds);
+    charges = z ∙ ap (write fuel) (run-leaves .fuel);
+    lengths = (r .runs .sameState .len, length-whole 65536 live live′ (r .runs .sameLive .len) (r .behindLive), length-whole 1048576 store store′ (r .runs .sameStore .len) (r .behindStore));
+    behindLive = r .behindLive;
+    behindStore = r .behindStore;
+    outOfTurn = λ h.
+        let q = r .runs .untouched (viewOf state live store) (is-ready image state live store y a .0 .holding) h in
+        (q .0, whole 65536 live live′ (q .1) (r .behindLive), whole 1048576 store store′ (q .2) (r .behindStore));
   }
-
-  pub call-fits : 2560 ≤ length rows → 10923 ≤ length constants → 256 ≤ length inner → Fits c u k rows constants inner
-  call-fits b d g =
-      let low : Low c u k = rw a at (y .low) in
-      record { codes = low .codes; rows = b; constants = omega (arith, low .used); inner = omega (arith, low .codes, low .kept) }
-
-  module _ {t : ℕ} {f : Fuel} {g : Group} {state′ live′ store′ : List ℕ} (r : RunsLoans tabled f t g state live store state′ live′ store′) where
-    abbrev trace : Trace
-    trace = callOf tabled (sizesOf live store) (runs t f) (viewOf state live store)
-
-    run-leaves : RunLeaves trace t g state′ (frontLive live′) (frontStore store′)
-    run-leaves = rw (← front-sizes live store) (r .runs .leaves (viewOf state live store) (is-ready .0 .holding) (is-ready .1))
-
-    -- no more ticks are left than were given
-    pub call-most : g .ticks ≤ t
-    call-most = run-leaves .most
-
-    run-done : {fuel fuel′ : List ℕ} → fuel′ ≡ write fuel (g .fuel) → RunDone trace (viewOf state live store .wait) (ranOf (g .code) (t - g .ticks)) state live store fuel state′ live′ store′ fuel′
-    run-done {fuel} z = record {
-      answers = λ j. ranOf (run-leaves .answer j) (run-leaves .taken j);
-      holds = rw (← live-cells live′, ← store-cells store′) (run-leaves .holds);
-      charges = z ∙ ap (write fuel) (run-leaves .fuel);
-      lengths = (r .runs .sameState .len, length-whole 65536 live live′ (r .runs .sameLive .len) (r .behindLive), length-whole 1048576 store store′ (r .runs .sameStore .len) (r .behindStore));
-      behindLive = r .behindLive;
-      behindStore = r .behindStore;
-      outOfTurn = λ h.
-          let q = r .runs .untouched (viewOf state live store) (is-ready .0 .holding) h in
-          (q .0, whole 65536 live live′ (q .1) (r .behindLive), whole 1048576 store store′ (q .2) (r .behindStore));
-    }
 
 -- ---- The returns: a loan of fuel that is refused, memory that is refused, a run
 module _ (image : List ℕ) (t : ℕ) (state live store fuel : List ℕ) {o : Loan} (w : o ≡ read fuel) where
   pub call-unlent : {n : ℕ} → o ≡ loan.Refused n → RunCalled image t (ranOf n 0) state live store fuel state live store fuel
-  call-unlent {n} e =
-      let q : read fuel ≡ loan.Refused n = sym w ∙ e in
-      record { does = rw q (refl, refl, refl, refl, refl) }
+  call-unlent e = record { does = rw (un-lent image state live store fuel w e) (refl, refl, refl, refl, refl) }
 
   module _ {f : Fuel} (e : o ≡ loan.Held f) {x : Read} {rows constants inner : List ℕ} (y : Enters image state live store x rows constants inner) where
-    lent : read fuel ≡ loan.Held f
-    lent = sym w ∙ e
+    pub call-unentered : {n : ℕ} → x ≡ reads.Refused n → RunCalled image t (ranOf n 0) state live store fuel state live store fuel
+    call-unentered k = record { does = rw (lent-un-entered image state live store fuel w e y k) (refl, refl, refl, refl, refl) }
 
-    pub call-unentered : {n : ℕ} → x ≡ read.Refused n → RunCalled image t (ranOf n 0) state live store fuel state live store fuel
-    unfolding withFuel
-    call-unentered {n} k =
-        let q : entry image state live store ≡ refused n = sym (rw k at (y .does)) in
-        record { does = rw (lent, q) (refl, refl, refl, refl, refl) }
-
-    pub call-runs : {c u k : ℕ} (a : x ≡ read.Accepted c u k) {g : Group} {state′ live′ store′ fuel′ : List ℕ} → RunsLoans (programIn image (take (10 * c) rows) (take u constants) (take k inner) c) f t g state live store state′ live′ store′
+    pub call-runs : {c u k : ℕ} (a : x ≡ reads.Accepted c u k) {g : Group} {state′ live′ store′ fuel′ : List ℕ} → RunsLoans (tabled image rows constants inner c u k) f t g state live store state′ live′ store′
         → fuel′ ≡ write fuel (g .fuel) → RunCalled image t (ranOf (g .code) (t - g .ticks)) state live store fuel state′ live′ store′ fuel′
-    unfolding withFuel
-    call-runs a r z = record { does = rw (lent, is-entered image state live store y a) (run-done image state live store y a r z) }
+    call-runs a r z = record { does = rw (lent-entered image state live store fuel w e y a) (run-done image state live store y a r z) }

@@ -3,22 +3,21 @@ use mathlib.Core.Path.{_≡_}
 use mathlib.Core.List.{List}
 use mathlib.Core.Bool.{Bool, true}
 use Prim.Native.Nat.{ℕ, _-_, _≤_}
-use lib.ListN.{length, take, drop}
-use lib.Dec.{ltb}
+use lib.ListN.{length, drop}
 use Rattle.cells.specs.Cells.{cells}
 use Rattle.fuel.specs.Loans.{read, write}
 use Rattle.fuel.specs.declared.Fuel.{Fuel}
-use Rattle.fuel.specs.declared.Loan.{Loan}
-use Rattle.fuel.specs.declared.Loan.the-variants.{Held, Refused}
-use Rattle.image.specs.Records.{if?, Answer, refused, accepted}
+use Rattle.image.specs.Records.{Answer, refused, accepted}
 use Rattle.image.specs.Fine.{Accepted}
 use Rattle.machine.specs.Values.{Program}
 use Rattle.machine.specs.Calls.{Sizes, World, runs, Trace, callOf, answerOf, stepsOf, fuelAfter, worldAfter}
 use Rattle.memory.specs.Layout.{Holds}
-use Rattle.form.specs.Entry.{Entered, entry, liveOf, storeOf}
+use Rattle.form.specs.Entry.{entry, liveOf, storeOf}
 use Rattle.plan.specs.Rest.{Same}
 use Rattle.groups.specs.declared.Group.{Group}
 use Rattle.requests.specs.Asked.{roomsOf, Holding}
+use Rattle.loans.specs.Loans.{frontLive, frontStore}
+pub use Rattle.loans.specs.Loans.{Fueled, fueled, sizesOf}
 use Rattle.runs.specs.declared.Ran.{Ran}
 
 -- ---- A run
@@ -36,40 +35,15 @@ pub record RunsWorld (P : Program) (fuel : Fuel) (ticks : ℕ) (r : Group) (stat
   pub sameLive : Same live live′
   pub sameStore : Same store store′
 
--- ---- Over whole loans: what is used of them is cut to its most, and bytes behind it do not change
-unfoldable pub usedBytes : ℕ → ℕ → ℕ
-usedBytes len most = if? (ltb len most) len most
-
-abbrev pub frontLive : List ℕ → List ℕ
-frontLive live = take 65536 live
-
-abbrev pub frontStore : List ℕ → List ℕ
-frontStore store = take 1048576 store
-
+-- ---- Over whole loans: bytes behind what is used do not change
 pub record RunsLoans (P : Program) (fuel : Fuel) (ticks : ℕ) (r : Group) (state live store state′ live′ store′ : List ℕ) : Type 0 where
   pub runs : RunsWorld P fuel ticks r state (frontLive live) (frontStore store) state′ (frontLive live′) (frontStore store′)
   pub behindLive : drop 65536 live′ ≡ drop 65536 live
   pub behindStore : drop 1048576 store′ ≡ drop 1048576 store
 
 -- ---- As a call: "6, 1, then 2 and 4, 3, 10, 7, 11"
--- the fuel of a loan, and what memory holds
-pub record Fueled : Type 0 where
-  pub fuel : Fuel
-  pub entered : Entered
-
-unfoldable pub withFuel : Fuel → Answer Entered → Answer Fueled
-withFuel f (refused n) = refused n
-withFuel f (accepted e) = accepted (record { fuel = f; entered = e })
-
-abbrev pub fueled : Loan → Answer Entered → Answer Fueled
-fueled (Refused n) e = refused n
-fueled (Held f) e = withFuel f e
-
 abbrev pub ranOf : ℕ → ℕ → Ran
 ranOf n t = record { code = n; ticks = t }
-
-abbrev pub sizesOf : List ℕ → List ℕ → Sizes
-sizesOf live store = record { live = length (liveOf live); store = length (storeOf store) }
 
 -- a run that begins: its answer, ticks, fuel and memory are the definition's; bytes behind what is used do not change, and one that is out of turn leaves every byte
 pub record RunDone (t : Trace) (wait : Bool) (r : Ran) (state live store fuel state′ live′ store′ fuel′ : List ℕ) : Type 0 where

@@ -1,11 +1,11 @@
 // A run as a call: fuel and memory are tested, memory in form becomes a machine at rest, the run goes, and the state block shows what it leaves.
-ghost use mathlib.Core.Path.{_≡_};
 ghost use Prim.Native.Nat.{_*_};
 ghost use lib.ListN.{take};
 ghost use Rattle.reader.specs.Reads.{Fits};
 ghost use Rattle.scan.specs.Tables.{programIn};
 ghost use Rattle.requests.specs.Asked.{Entered};
-ghost use Rattle.runs.specs.Ran.{RunsWorld, usedBytes, frontLive, frontStore, RunsLoans, RunCalled};
+ghost use Rattle.loans.specs.Loans.{frontLive, frontStore};
+ghost use Rattle.runs.specs.Ran.{RunsWorld, RunsLoans, RunCalled};
 use fuel::Fuel;
 use fuel::Loan;
 use groups::Group;
@@ -78,16 +78,6 @@ fn run_lent(
     r
 }
 
-// How many bytes of a loan are used: "a longer loan is used that far".
-fn lent_bytes(len: usize, most: usize) -> usize
-    ensures { λ r. ⌜ r ≡ usedBytes len most ⌝ }
-{
-    if len < most {
-        return len;
-    }
-    most
-}
-
 // The same over the whole loans, with tables of which only the front is filled.
 fn run_entered(
     image: &[u8],
@@ -107,8 +97,8 @@ fn run_entered(
     ensures { λ r. ⌜ RunsLoans (programIn (now (image .entry)) (take (10 * codes) (now (rows .entry))) (take used (now (constants .entry))) (take kept (now (inner .entry))) codes) fuel ticks r (now (state .entry)) (now (live .entry)) (now (store .entry)) (now (state .exit)) (now (live .exit)) (now (store .exit)) ⌝ }
 {
     let end = 10 * codes;
-    let l = lent_bytes(live.len(), 65536);
-    let s = lent_bytes(store.len(), 1048576);
+    let l = loans::lent_bytes(live.len(), 65536);
+    let s = loans::lent_bytes(store.len(), 1048576);
     run_lent(
         image,
         &rows[..end],

@@ -1,5 +1,6 @@
 -- `runs::run` meets its contract: fuel is read, the call entered, the run made, and the fuel written. Assumes nothing.
-use Rattle.runs.specs.CallLaws.{call-unlent, call-unentered, call-enters, call-fits, call-most, call-runs}
+use Rattle.loans.specs.EntryLaws.{call-enters, call-fits}
+use Rattle.runs.specs.CallLaws.{call-unlent, call-unentered, call-most, call-runs}
 use borrow.Author.Needs.{needs}
 use Rattle.runs.proofs.run.Statement.{statement}
 use Rattle.runs.proofs.run.Tie as tie

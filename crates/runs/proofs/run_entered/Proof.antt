@@ -1,5 +1,6 @@
 -- `runs::run_entered` meets its contract: the fronts of the loans are lent, and come back before what lies behind them. Assumes nothing.
-use Rattle.runs.specs.LoanLaws.{used-fits, loans-entered, loans-run}
+use Rattle.loans.specs.LoanLaws.{used-fits, loans-entered}
+use Rattle.runs.specs.LoanLaws.{loans-run}
 use lib.Seq.{length-take-le}
 use mathlib.Core.Path.{refl, sym}
 use native.Mathlib.Omega.{arith}
