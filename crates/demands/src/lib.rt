@@ -1,0 +1,1 @@
+// Demand 3 of the exported functions: definitions and theorems only.
