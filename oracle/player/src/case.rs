@@ -293,6 +293,14 @@ impl Case {
         self.items.iter().any(|(_, item)| matches!(item, Item::Has(_) | Item::HasNo(_)))
     }
 
+    /// The first image that it lends.
+    pub fn image(&self) -> Option<&[u8]> {
+        self.items.iter().find_map(|(_, item)| match item {
+            Item::Image(image) => Some(&**image),
+            _ => None,
+        })
+    }
+
     /// Plays the case on a new machine and shows each call with what it left before the expectations are looked at.
     pub fn play(&self, machine: &mut dyn Machine, each: &mut dyn FnMut(&Step, &After)) -> Result<(), Failure> {
         let mut lent = Step {

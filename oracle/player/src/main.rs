@@ -27,6 +27,7 @@ const USAGE: &str = "usage: player cases FILES..
        player rows FILES.. > FILE
        player rows --from SEED --lists N > FILE
        player assemble < TEXT > IMAGE
+       player assemble FILE > IMAGE
        player disassemble < IMAGE > TEXT";
 
 type Outcome = Result<(), String>;
@@ -50,6 +51,7 @@ fn main() -> ExitCode {
         }
         ["rows", files @ ..] if !files.is_empty() => case_rows(files),
         ["assemble"] => assemble_stdin(),
+        ["assemble", file] => first_image(file).and_then(write),
         ["disassemble"] => disassemble_stdin(),
         _ => Err(USAGE.into()),
     };
@@ -210,6 +212,13 @@ fn assemble_stdin() -> Outcome {
     let text = String::from_utf8(stdin()?).map_err(|error| error.to_string())?;
     let image = assemble(&text).map_err(|error| error.to_string())?;
     write(image)
+}
+
+/// The first image of a case file.
+fn first_image(file: &str) -> Result<Vec<u8>, String> {
+    let cases = parse_file(file)?;
+    let image = cases.iter().find_map(case::Case::image);
+    image.map(<[u8]>::to_vec).ok_or_else(|| format!("{file} has no image"))
 }
 
 fn disassemble_stdin() -> Outcome {
