@@ -2,7 +2,7 @@
 use mathlib.Core.Path.{_≡_}
 use mathlib.Core.List.{List}
 use mathlib.Core.Logic.{_⊎_}
-use Prim.Native.Nat.{ℕ, _+_, _≤_, _<_}
+use Prim.Native.Nat.{ℕ, _+_, _-_, _≤_, _<_}
 use lib.ListN.{length, getD, drop}
 use Rattle.cells.specs.Cells.{room, cells}
 use Rattle.cells.specs.declared.Cell.{Cell}
@@ -65,17 +65,23 @@ abbrev pub Resumes : Counts → ℕ → Cell → List ℕ → List ℕ → List 
 Resumes c h v live store starts live′ starts′ = Moves (λ (m m′ : M). Resumed h v m m′) c live store starts live′ store starts′
 
 -- ---- The table
--- L has so many frames from `at` on, and the table has a place for each behind the first ones
-pub record Beginnable (first at count : ℕ) (L : List Cell) (starts : List ℕ) : Type 0 where
+-- S has so many frames from `from` on, which are to lie at `at`, and the table has a place for each behind the first ones
+pub record Beginnable (first from at count : ℕ) (S : List Cell) (starts : List ℕ) : Type 0 where
   pub table : first + count ≤ length starts
-  pub cells : at + framesSize count (drop at L) ≤ length L
-  pub small : length L < 4294967296
+  pub cells : from + framesSize count (drop from S) ≤ length S
+  pub smallStore : length S < 4294967296
+  pub small : at + framesSize (count - 1) (drop from S) < 4294967296
 
--- the table has the start of each of these frames, and its other entries as they were
-pub record Begun (first at count : ℕ) (L : List Cell) (old new : List ℕ) : Type 0 where
-  pub starts : (i : ℕ) → i < count → getD new (first + i) 0 ≡ at + framesSize i (drop at L)
+-- the table has the start of each of the frames x at `at`, and its other entries as they were
+pub record Begun (first at count : ℕ) (x : List Cell) (old new : List ℕ) : Type 0 where
+  pub starts : (i : ℕ) → i < count → getD new (first + i) 0 ≡ at + framesSize i x
   pub other : (i : ℕ) → (i < first) ⊎ (first + count ≤ i) → getD new i 0 ≡ getD old i 0
   pub len : length new ≡ length old
+
+-- and the last of them begins at `last` in S
+pub record Begins (first from at count : ℕ) (S : List Cell) (old : List ℕ) (last : ℕ) (new : List ℕ) : Type 0 where
+  pub begun : Begun first at count (drop from S) old new
+  pub reached : last ≡ from + framesSize (count - 1) (drop from S)
 
 -- ---- A plan
 -- some machine rests that the plan is for, and there is room for what it leaves

@@ -1,15 +1,15 @@
 -- Frames that are put on top: a new one, or those of a continuation.
 use mathlib.Core.Path.{_≡_, refl, sym, ap, subst, _∙_}
-use mathlib.Core.List.{List, [], _∷_, _++_, reverse, append-nil}
+use mathlib.Core.List.{List, [], _∷_, _++_, reverse, append-nil, append-assoc}
 use mathlib.Core.Bool.{Bool, true, false}
-use Prim.Native.Nat.{ℕ, suc, _+_, _<_, _≤_}
+use Prim.Native.Nat.{ℕ, suc, _+_, _-_, _<_, _≤_}
 use native.Mathlib.Omega.{arith}
 use lib.ListN.{length, getD, set, take, drop, length-append, length-reverse, length-drop, length-set, length-replicate}
-use lib.Seq.{getD-at, length-take-le}
+use lib.Seq.{getD-at, drop-at, length-take-le}
 use Rattle.cells.specs.Cells.{null, room, cells}
 use Rattle.cells.specs.CellsLaws.{length-cells}
 use Rattle.cells.specs.declared.Cell.{Cell}
-use Rattle.machine.specs.Values.{listAt}
+use Rattle.machine.specs.Values.{cell, listAt}
 use Rattle.machine.specs.Machine.{Frame, lucia, host, effectCallback, Object, list, continuation, Result, M, frameCost, framesCost, cost, used, resultCost, here, objectAt, parse, putBack}
 use Rattle.machine.specs.Store.{used-append}
 use Rattle.memory.specs.Layout.{Written, written, flat, objectCells}
@@ -18,7 +18,7 @@ use Rattle.memory.specs.Lists.{writtenCost, length-flat, cost-written}
 use Rattle.moves.specs.Runs.{Top, Stands, Settles, opened-top, pushedAll}
 use Rattle.moves.specs.Frames.{Live, Starts, newWritten, stands-live}
 use Rattle.moves.specs.Objects as objects
-use Rattle.moves.specs.Objects.{Stored, Kept, object-there}
+use Rattle.moves.specs.Objects.{Stored, Kept, lastOf, object-there}
 use Rattle.moves.specs.declared.Running.{Running}
 use Rattle.plan.specs.Rest.{countsOf}
 use Rattle.plan.specs.Plans.{takenCount, listedCells, Enough, Resumed}
@@ -28,8 +28,8 @@ use Rattle.plan.specs.declared.Params.{Params}
 use Rattle.plan.specs.declared.Start.{Start}
 use Rattle.arguments.specs.Laws.{pushes-same}
 use Rattle.captures.specs.Entered.{Lies}
-use Rattle.actions.specs.Acted.{Roomy, Startable, StartsFrame, Resumable, Resumes, Beginnable, Begun}
-use Rattle.actions.specs.Tables.{begins-new, begins-more, frames-fit}
+use Rattle.actions.specs.Acted.{Roomy, Startable, StartsFrame, Resumable, Resumes, Beginnable, Begun, Begins}
+use Rattle.actions.specs.Tables.{begins-new, begins-more, begun-there, live-above, frames-inside, sizes-back}
 
 -- ---- Costs
 parsed-count : (b : Bool) (n : ℕ) (args : List Cell) (s : List Object) → (b ≡ true → n ≤ length args) → length (parse b n args s .args) ≡ takenCount (record { count = n; variadic = b }) (length args)
@@ -149,6 +149,15 @@ head-count : {s : List Object} (h : ℕ) {K : List Frame} {S : List Cell} → St
 unfolding objectCells
 head-count h o q = let t = object-there o q in ap (λ (x : Cell). x .number) (ap (λ (l : List Cell). getD l h null) (t .is) ∙ getD-at (t .pre) _ _ null h (t .at))
 
+-- behind it lie its frames
+frames-stored : {s : List Object} (h : ℕ) {K : List Frame} {S : List Cell} → Stored s S → objectAt s h ≡ here (continuation K) → Live K (drop (h + 1) S)
+unfolding objectCells
+frames-stored h {K} {S} o q =
+    let t = object-there o q in
+    let a : List Cell = t .pre ++ (cell 130 (length K) (framesCost K) ∷ []) in
+    let i : S ≡ a ++ (flat K ++ t .post) = t .is ∙ sym (append-assoc (t .pre) (cell 130 (length K) (framesCost K) ∷ []) (flat K ++ t .post)) in
+    record { free = t .post; is = ap (drop (h + 1)) i ∙ drop-at a (flat K ++ t .post) (h + 1) (length-append (t .pre) (cell 130 (length K) (framesCost K) ∷ []) ∙ omega (arith, t .at)) }
+
 handle-there : {s : List Object} (h : ℕ) {K : List Frame} {S : List Cell} → Stored s S → objectAt s h ≡ here (continuation K) → h < length S
 unfolding objectCells
 handle-there h {K} o q =
@@ -179,10 +188,12 @@ module _ {h : ℕ} {v : Cell} {m m′ : M} {c : Counts} {live store starts : Lis
     back-live : Live (putBack v (r .frames) ++ m .frames) (cells live′)
     back-live = back-frames b (m .frames) (m .store) (r .frames) (l .frames) (flat-is l) (l .objects) (r .there) back-fits some
 
-    resumed-lies : {starts′ : List ℕ} → Begun (c .frames) (c .live) (length (r .frames)) (cells live′) starts starts′ → Lies m′ (countsOf m′) live′ store starts′
+    resumed-lies : {starts′ : List ℕ} → Begun (c .frames) (c .live) (length (r .frames)) (drop (h + 1) (cells store)) starts starts′ → Lies m′ (countsOf m′) live′ store starts′
     resumed-lies {starts′} g =
         let K : List Frame = putBack v (r .frames) in
-        let d : Begun (c .frames) (c .live) (length K) (cells live′) starts starts′ = rw (length-back v (r .frames)) g in
+        let there : Live K (drop (c .live) (cells live′)) = live-above K (m .frames) back-live (flat-is l) in
+        let d : Begun (c .frames) (c .live) (length K) (drop (c .live) (cells live′)) starts starts′ =
+        rw (length-back v (r .frames)) (begun-there (sizes-back v (r .frames) (frames-stored h (l .objects) (r .there)) there) g) in
         rw (r .after) (record {
           counts = refl;
           running = l .running;
@@ -201,25 +212,32 @@ module _ {c : Counts} {h : ℕ} {v : Cell} {live store starts : List ℕ} (o : R
   pub handle-fits : h < room store
   handle-fits = omega (arith, length-cells store, handle-there h (o .lies .objects) (does .there))
 
-  module _ {n count : ℕ} {live′ : List ℕ} (b : objects.Resumed v (c .live) h live store n live′) (e : count ≡ getD (cells store) h null .number) where
-    pub begin-fits : Beginnable (c .frames) (c .live) count (cells live′) starts
+  module _ {count : ℕ} (e : count ≡ getD (cells store) h null .number) where
+    pub begin-fits : Beginnable (c .frames) (h + 1) (c .live) count (cells store) starts
     begin-fits =
         let l = o .lies in
-        let K : List Frame = putBack v (does .frames) in
-        let k : length K ≡ count = length-back v (does .frames) ∙ sym (head-count h (l .objects) (does .there)) ∙ sym e in
+        let K : List Frame = does .frames in
+        let k : count ≡ length K = e ∙ head-count h (l .objects) (does .there) in
+        let x : List Cell = drop (h + 1) (cells store) in
+        let inside : framesSize count x ≤ length x = rw k (frames-inside (frames-stored h (l .objects) (does .there))) in
         record {
-          table = omega (arith, o .behind .table, count-after does l (o .behind), length-back v (does .frames));
-          cells = subst (λ (i : ℕ). c .live + framesSize i (drop (c .live) (cells live′)) ≤ length (cells live′)) k (frames-fit K (o .machine .frames) (back-live does l (o .behind) (o .does .some) b) (flat-is l));
-          small = omega (arith, length-cells live′, b .len, o .behind .small .0);
+          table = omega (arith, o .behind .table, count-after does l (o .behind));
+          cells = omega (arith, inside, length-drop (h + 1) (cells store), handle-there h (l .objects) (does .there));
+          smallStore = omega (arith, length-cells store, o .behind .small .1);
+          small = omega (arith, objects.back-fits back-kept e refl refl, o .behind .small .0);
         }
 
-    pub resumes : {starts′ : List ℕ} → Begun (c .frames) (c .live) count (cells live′) starts starts′ → Resumes c h v live store starts live′ starts′
-    resumes {starts′} g = record {
-      lies = λ m m′ r l room-there.
-          let k : count ≡ length (r .frames) = e ∙ head-count h (l .objects) (r .there) in
-          let some : 0 < length (r .frames) = omega (arith, o .does .some, e ∙ head-count h (o .lies .objects) (does .there)) in
-          resumed-lies r l room-there some b (subst (λ (i : ℕ). Begun (c .frames) (c .live) i (cells live′) starts starts′) k g);
-      sameLive = record { rest = b .rest; len = b .len };
-      sameStore = record { rest = refl; len = refl };
-      table = g .len;
-    }
+    module _ {last : ℕ} {starts′ : List ℕ} (g : Begins (c .frames) (h + 1) (c .live) count (cells store) starts last starts′) where
+      pub last-there : last ≡ lastOf h (cells store)
+      last-there = g .reached ∙ ap (λ (n : ℕ). h + 1 + framesSize (n - 1) (drop (h + 1) (cells store))) e
+
+      pub resumes : {n : ℕ} {live′ : List ℕ} → objects.Resumed v (c .live) h live store n live′ → Resumes c h v live store starts live′ starts′
+      resumes {live′ = live′} b = record {
+        lies = λ m m′ r l room-there.
+            let k : count ≡ length (r .frames) = e ∙ head-count h (l .objects) (r .there) in
+            let some : 0 < length (r .frames) = omega (arith, o .does .some, e ∙ head-count h (o .lies .objects) (does .there)) in
+            resumed-lies r l room-there some b (subst (λ (i : ℕ). Begun (c .frames) (c .live) i (drop (h + 1) (cells store)) starts starts′) k (g .begun));
+        sameLive = record { rest = b .rest; len = b .len };
+        sameStore = record { rest = refl; len = refl };
+        table = g .begun .len;
+      }

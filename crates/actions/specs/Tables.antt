@@ -9,7 +9,7 @@ use native.Mathlib.Omega.{arith}
 use lib.ListN.{length, getD, set, drop, length-set, length-append}
 use lib.Seq.{drop-at, drop-drop, drop-append-add, getD-set-same, getD-set-other}
 use Rattle.cells.specs.declared.Cell.{Cell}
-use Rattle.machine.specs.Machine.{Frame}
+use Rattle.machine.specs.Machine.{Frame, give, putBack}
 use Rattle.memory.specs.Layout.{flat}
 use Rattle.memory.specs.View.{frameSize, framesSize}
 use Rattle.memory.specs.Lists.{flat-append}
@@ -19,6 +19,7 @@ use Rattle.moves.specs.Objects.{end-opened, sizes}
 use Rattle.moves.specs.Starts.{lower, frames-lower}
 use Rattle.moves.specs.declared.Running.{Running}
 use Rattle.plan.specs.Rest.{Begins}
+use Rattle.actions.specs.Acted as acted
 use Rattle.actions.specs.Acted.{Begun}
 
 -- ---- One frame more
@@ -35,45 +36,63 @@ frames-up zero n x h = omega arith
 frames-up (suc i) zero x h = absurd (omega arith)
 frames-up (suc i) (suc n) x h = omega (arith, frames-up i n (drop (frameSize x) x) (omega arith))
 
--- ---- The loop: i starts are in the table, the next frame begins at `place` and ends at `next`
-pub record Passed (first at i : ℕ) (L : List Cell) (old : List ℕ) (place : ℕ) (new : List ℕ) : Type 0 where
-  pub begun : Begun first at i L old new
-  pub reached : place ≡ at + framesSize i (drop at L)
+-- ---- The loop: i starts are in the table, the last of those frames begins at `last`, the next at `place`, and that ends at `next`
+pub record Passed (first from at i : ℕ) (S : List Cell) (old : List ℕ) (last place : ℕ) (new : List ℕ) : Type 0 where
+  pub begun : Begun first at i (drop from S) old new
+  pub reached : place ≡ from + framesSize i (drop from S)
+  pub left : last ≡ from + framesSize (i - 1) (drop from S)
 
-pub passed-none : (first at : ℕ) (L : List Cell) (starts : List ℕ) → Passed first at 0 L starts at starts
+pub passed-none : (first from at : ℕ) (S : List Cell) (starts : List ℕ) → Passed first from at 0 S starts from from starts
 unfolding framesSize
-passed-none first at L starts = record { begun = record { starts = λ i h. absurd (omega arith); other = λ i h. refl; len = refl }; reached = omega arith }
+passed-none first from at S starts = record {
+  begun = record { starts = λ i h. absurd (omega arith); other = λ i h. refl; len = refl };
+  reached = omega arith;
+  left = omega arith;
+}
 
-module _ {first at i : ℕ} {L : List Cell} {old : List ℕ} {place next : ℕ} {new : List ℕ} {g : Running} (b : Passed first at i L old place new) (e : g ≡ opened L place) (q : next ≡ endOf g) where
-  next-opened : next ≡ endOf (opened L place)
+module _ {first from at i : ℕ} {S : List Cell} {old : List ℕ} {last place next : ℕ} {new : List ℕ} {g : Running} (b : Passed first from at i S old last place new) (e : g ≡ opened S place) (q : next ≡ endOf g) where
+  next-opened : next ≡ endOf (opened S place)
   next-opened = q ∙ ap (λ (k : Running). endOf k) e
 
-  next-is : next ≡ at + framesSize (suc i) (drop at L)
+  next-is : next ≡ from + framesSize (suc i) (drop from S)
   next-is =
-      let d : drop place L ≡ drop (framesSize i (drop at L)) (drop at L) = ap (λ (k : ℕ). drop k L) (b .reached) ∙ sym (drop-drop (framesSize i (drop at L)) at L) in
-      omega (arith, next-opened, end-opened L place, frames-last i (drop at L), ap (λ (l : List Cell). frameSize l) d, b .reached)
+      let d : drop place S ≡ drop (framesSize i (drop from S)) (drop from S) = ap (λ (k : ℕ). drop k S) (b .reached) ∙ sym (drop-drop (framesSize i (drop from S)) from S) in
+      omega (arith, next-opened, end-opened S place, frames-last i (drop from S), ap (λ (l : List Cell). frameSize l) d, b .reached)
 
-  pub passed-fits : {n : ℕ} → i < n → (place + 6 ≤ next) × (next ≤ at + framesSize n (drop at L))
-  passed-fits {n} lt = (omega (arith, next-opened), omega (arith, next-is, frames-up (suc i) n (drop at L) (omega arith)))
+  -- where this frame begins and ends among n
+  pub passed-fits : {n : ℕ} → i < n → (place + 6 ≤ next) × (next ≤ from + framesSize n (drop from S)) × (place ≤ from + framesSize (n - 1) (drop from S)) × (from ≤ place)
+  passed-fits {n} lt = (
+    omega (arith, next-opened),
+    omega (arith, next-is, frames-up (suc i) n (drop from S) (omega arith)),
+    omega (arith, b .reached, frames-up i (n - 1) (drop from S) (omega arith)),
+    omega (arith, b .reached),
+  )
 
-  pub passed-next : first + i < length old → Passed first at (i + 1) L old next (set new (first + i) place)
-  passed-next lt = record {
+  pub passed-next : {x : ℕ} → first + i < length old → x ≡ at + (place - from) → Passed first from at (i + 1) S old place next (set new (first + i) x)
+  passed-next {x} lt w = record {
     begun = record {
       starts = λ j h. by j h (decLt j i);
       other = λ j h.
-          getD-set-other new (first + i) j place 0 (λ k. ⊎-elim (λ w. omega arith) (λ w. omega arith) h)
+          getD-set-other new (first + i) j x 0 (λ k. ⊎-elim (λ w. omega arith) (λ w. omega arith) h)
           ∙ b .begun .other j (⊎-elim (λ w. inl w) (λ w. inr (omega arith)) h);
-      len = length-set new (first + i) place ∙ b .begun .len;
+      len = length-set new (first + i) x ∙ b .begun .len;
     };
-    reached = next-is ∙ ap (λ (k : ℕ). at + framesSize k (drop at L)) (sym (add-one i));
+    reached = next-is ∙ ap (λ (k : ℕ). from + framesSize k (drop from S)) (sym (add-one i));
+    left = b .reached ∙ ap (λ (k : ℕ). from + framesSize k (drop from S)) (omega arith);
   }
     where
-      by : (j : ℕ) → j < i + 1 → Dec (j < i) → getD (set new (first + i) place) (first + j) 0 ≡ at + framesSize j (drop at L)
-      by j h (yes p) = getD-set-other new (first + i) (first + j) place 0 (λ k. omega arith) ∙ b .begun .starts j p
-      by j h (no p) = let e : j ≡ i = omega arith in rw e (getD-set-same new (first + i) place 0 (omega (arith, b .begun .len)) ∙ b .reached)
+      by : (j : ℕ) → j < i + 1 → Dec (j < i) → getD (set new (first + i) x) (first + j) 0 ≡ at + framesSize j (drop from S)
+      by j h (yes p) = getD-set-other new (first + i) (first + j) x 0 (λ k. omega arith) ∙ b .begun .starts j p
+      by j h (no p) = let e : j ≡ i = omega arith in rw e (getD-set-same new (first + i) x 0 (omega (arith, b .begun .len)) ∙ omega (arith, w, b .reached))
 
-pub passed-all : {first at i n : ℕ} {L : List Cell} {old new : List ℕ} {place : ℕ} → Passed first at i L old place new → i ≤ n → n ≤ i → Begun first at n L old new
-passed-all {first} {at} {i} {n} {L} {old} {new} b le ge = let e : i ≡ n = omega arith in subst (λ (k : ℕ). Begun first at k L old new) e (b .begun)
+pub passed-all : {first from at i n : ℕ} {S : List Cell} {old new : List ℕ} {last place : ℕ} → Passed first from at i S old last place new → i ≤ n → n ≤ i → acted.Begins first from at n S old last new
+passed-all {first} {from} {at} {i} {n} {S} {old} {new} {last} b le ge =
+    let e : i ≡ n = omega arith in
+    subst (λ (k : ℕ). acted.Begins first from at k S old last new) e (record { begun = b .begun; reached = b .left })
+
+-- the frames are as long where they lie then
+pub begun-there : {first at n : ℕ} {x y : List Cell} {old new : List ℕ} → ((i : ℕ) → i < n → framesSize i x ≡ framesSize i y) → Begun first at n x old new → Begun first at n y old new
+begun-there {at = at} f b = record { starts = λ i h. b .starts i h ∙ ap (λ (k : ℕ). at + k) (f i h); other = b .other; len = b .len }
 
 -- ---- Frames on others: below they begin where they did
 pub lower-onto : (A F : List Frame) (i : ℕ) → i ≤ length F → lower i (A ++ F) ≡ lower i F
@@ -100,6 +119,19 @@ begins-new x F starts n at e q lt b i h = by (decLt i n)
         let j : i ≡ length F = omega arith in
         rw k (getD-set-same starts n at 0 lt) ∙ q ∙ ap (λ (fs : List Frame). length (flat fs)) (sym (rw j (lower-onto (x ∷ []) F (length F) (omega arith) ∙ lower-all F)))
 
+-- frames at the front of x have their cells there
+pub frames-inside : {fs : List Frame} {x : List Cell} → Live fs x → framesSize (length fs) x ≤ length x
+frames-inside {fs} {x} o =
+    omega (arith, frames-lower (length fs) o (omega arith), ap (λ (l : List Frame). length (flat l)) (lower-all fs), ap length (o .is) ∙ length-append (flat fs) (o .free))
+
+-- what the last frame gets moves none of them
+pub sizes-back : (v : Cell) (K : List Frame) {x y : List Cell} → Live K x → Live (putBack v K) y → (i : ℕ) → i < length K → framesSize i x ≡ framesSize i y
+unfolding putBack
+sizes-back v [] o p i lt = absurd (omega arith)
+sizes-back v (f ∷ K) o p i lt =
+    frames-lower i o (omega arith) ∙ ap (λ (fs : List Frame). length (flat fs)) (lower-onto (f ∷ []) K i (omega arith) ∙ sym (lower-onto (give v f ∷ []) K i (omega arith)))
+    ∙ sym (frames-lower i p (omega arith))
+
 -- the frames A on F, of which F ends at `at`
 module _ (A F : List Frame) {L : List Cell} (o : Live (A ++ F) L) {at : ℕ} (e : at ≡ length (flat F)) where
   after : List Cell
@@ -114,12 +146,11 @@ module _ (A F : List Frame) {L : List Cell} (o : Live (A ++ F) L) {at : ℕ} (e 
       let k : drop at L ≡ after = ap (drop at) in-front ∙ drop-at (flat F) after at (sym e) in
       ap (framesSize (length F + d)) in-front ∙ sizes F d after ∙ omega (arith, ap (framesSize d) k)
 
-  pub frames-fit : at + framesSize (length A) (drop at L) ≤ length L
-  frames-fit =
-      let n : length F + length A ≡ length (A ++ F) = omega (arith, length-append A F) in
-      omega (arith, size-on (length A), ap (λ (k : ℕ). framesSize k L) n, frames-lower (length (A ++ F)) o (omega arith), ap (λ (fs : List Frame). length (flat fs)) (lower-all (A ++ F)), ap length (o .is) ∙ length-append (flat (A ++ F)) (o .free))
+  pub live-above : Live A (drop at L)
+  unfolding after
+  live-above = record { free = o .free; is = ap (drop at) in-front ∙ drop-at (flat F) after at (sym e) }
 
-  pub begins-more : {first : ℕ} {old new : List ℕ} → first ≡ length F → Begun first at (length A) L old new → Begins F old → Begins (A ++ F) new
+  pub begins-more : {first : ℕ} {old new : List ℕ} → first ≡ length F → Begun first at (length A) (drop at L) old new → Begins F old → Begins (A ++ F) new
   begins-more {first} {old} {new} f b g i h = by (decLt i first)
     where
       by : Dec (i < first) → getD new i 0 ≡ length (flat (lower i (A ++ F)))

@@ -14,7 +14,7 @@ use Rattle.machine.specs.Opcodes.{Running, Action, throws, takes, nextAction}
 use Rattle.machine.specs.Calls.{Sizes, does, stops, outcome, Pace, failing, paceOf}
 use Rattle.machine.specs.FormLaws.{MachineFits}
 use Rattle.memory.specs.Layout.{written, flat}
-use Rattle.moves.specs.Runs.{Top}
+use Rattle.moves.specs.Runs.{Top, endOf, opened}
 use Rattle.moves.specs.declared.Running as registers
 use Rattle.plan.specs.Rest.{Same, countsOf, Begins, Held, Block, Rests}
 use Rattle.plan.specs.Plans.{Carries}
@@ -55,6 +55,29 @@ pub record Judgeable (plan : Plan) (n : ℕ) (c : Counts) (live store starts : L
 
 pub record Judges (plan : Plan) (n : ℕ) (c : Counts) (live store starts : List ℕ) (r : Acted) : Type 0 where
   pub judged : (P : Program) (m m′ : M) (args : List Cell) → length args ≡ n → Carries P plan args m m′ → Held P m c (cells live) (cells store) starts → Ready plan m (cells live) → JudgedAs (roomsOf live store) m′ r
+
+-- ---- A plan that needs no judging: the frames of a continuation, where there is room however much its last frame keeps
+-- it puts `more` frames on top, and nothing else
+pub record Eased (plan : Plan) (n : ℕ) (c : Counts) (live store starts : List ℕ) (more : ℕ) : Type 0 where
+  pub after : Counts
+  pub judges : Judges plan n c live store starts (Done after)
+  pub frames : after .frames ≡ c .frames + more
+  pub uses : after .store ≡ c .store
+  pub runs : (P : Program) (args : List Cell) (m m′ : M) → Carries P plan args m m′ → m′ .result ≡ m .result
+
+-- 0: this is not known
+pub record Eases (plan : Plan) (n : ℕ) (c : Counts) (live store starts : List ℕ) (more : ℕ) : Type 0 where
+  pub eased : (more ≡ 0 → ⊥) → Eased plan n c live store starts more
+
+-- so many frames stand in L, the top one where the table says
+pub record Standing (L : List Cell) (starts : List ℕ) (frames : ℕ) : Type 0 where
+  pub some : 0 < frames
+  pub table : frames ≤ length starts
+  pub inside : endOf (opened L (getD starts (frames - 1) 0)) ≤ length L
+  pub small : length L < 4294967296
+
+abbrev pub standingCounts : List Cell → List ℕ → ℕ → ℕ → Counts
+standingCounts L starts frames u = record { frames = frames; live = endOf (opened L (getD starts (frames - 1) 0)); store = u }
 
 -- ---- A plan for what is left of m once its top frame, in g, is changed or gone
 -- the top frame as it was, and as it is left

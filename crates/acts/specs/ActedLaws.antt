@@ -99,12 +99,12 @@ settled-rests {live₁ = live₁} m top below starts q run t s b st x =
     live-rests starts run (subst (λ (F : List Frame). Live F (cells live₁)) (sym q) (stands-live (s .stands _ _ t))) refl b st x
 
 -- ---- Room for what is left and for what it leads to
-roomy-left : {P : Program} {m : M} {c : Counts} {L S : List Cell} {n : ℕ} {live live₁ store starts : List ℕ} → Held P m c L S starts → Live (m .frames) (cells live₁) → Small c n live store starts → length live₁ ≡ length live → Roomy c live₁ store starts
+pub roomy-left : {P : Program} {m : M} {c : Counts} {L S : List Cell} {n : ℕ} {live live₁ store starts : List ℕ} → Held P m c L S starts → Live (m .frames) (cells live₁) → Small c n live store starts → length live₁ ≡ length live → Roomy c live₁ store starts
 roomy-left {live = live} {live₁} h l s e =
     let r : room live₁ ≡ room live = ap (λ (k : ℕ). k / 16) e in
     record { table = s .table; cellsLive = omega (arith, held-room h l, length-cells live₁); cellsStore = s .used; small = (omega (arith, s .few .2, r), s .few .1) }
 
-roomy-after : {c : Counts} {n : ℕ} {live live₁ store starts : List ℕ} (k : Counts) → refusalBy (roomsOf live store) k ≡ 0 → Small c n live store starts → length live₁ ≡ length live → Roomy k live₁ store starts
+pub roomy-after : {c : Counts} {n : ℕ} {live live₁ store starts : List ℕ} (k : Counts) → refusalBy (roomsOf live store) k ≡ 0 → Small c n live store starts → length live₁ ≡ length live → Roomy k live₁ store starts
 roomy-after {live = live} {live₁} {store} k e s q =
     let r : room live₁ ≡ room live = ap (λ (i : ℕ). i / 16) q in
     let f = no-refusal (roomsOf live store) k e in
@@ -112,7 +112,7 @@ roomy-after {live = live} {live₁} {store} k e s q =
 
 -- ---- A plan over the running frame
 module _ {m mF : M} {g left : Running} {live : List ℕ} (x : Changed m mF g left (cells live)) where
-  left-live : {live₁ : List ℕ} → Settles left live live₁ → Live (mF .frames) (cells live₁)
+  pub left-live : {live₁ : List ℕ} → Settles left live live₁ → Live (mF .frames) (cells live₁)
   left-live {live₁} s = subst (λ (F : List Frame). Live F (cells live₁)) (sym (ap (λ (y : M). y .frames) (x .leaves))) (stands-live (s .stands _ _ (x .runsLeft)))
 
   was-rests : {P : Program} {c : Counts} {B S : List Cell} {starts live₁ : List ℕ} → Held P mF c (cells live) S starts → Settles g live live₁ → Block m B → Rests m (countsOf m) B (cells live₁) S starts
@@ -145,7 +145,7 @@ module _ {plan : Plan} (bytes : List ℕ) {c : Counts} {g left : Running} {state
       }
 
       module _ {d : Acted} {after : Counts} {live₁ : List ℕ} (j : Judges plan n c live store starts d) (e : d ≡ Done after) (s : Settles left live live₁) where
-        pub over-carries : Carriable plan (cells bytes) c state live₁ store starts
+        unfoldable pub over-carries : Carriable plan (cells bytes) c state live₁ store starts
         over-carries =
             let l = left-live (o .changed) s in
             let k = subst (JudgedAs (roomsOf live store) (o .after)) e (j .judged (o .program) (o .leaves) (o .after) (cells bytes) (length-cells bytes ∙ sym q) (o .carries) (o .held) (o .ready)) in
@@ -187,7 +187,7 @@ module _ {plan : Plan} (bytes : List ℕ) {c : Counts} {g left : Running} {state
     }
 
 -- ---- A plan once the running frame is gone
-gone-live : {m mF : M} {g : Running} {L : List Cell} → Gone m mF g L → Live (mF .frames) L
+pub gone-live : {m mF : M} {g : Running} {L : List Cell} → Gone m mF g L → Live (mF .frames) L
 gone-live {L = L} x = subst (λ (F : List Frame). Live F L) (sym (ap (λ (y : M). y .frames) (x .leaves))) (top-live (x .runs))
 
 module _ {m mF : M} {g : Running} {live : List ℕ} (x : Gone m mF g (cells live)) where
@@ -216,7 +216,7 @@ module _ {plan : Plan} (bytes : List ℕ) {c : Counts} {g : Running} {state live
       }
 
       module _ {d : Acted} {after : Counts} (j : Judges plan n c live store starts d) (e : d ≡ Done after) where
-        pub below-carries : Carriable plan (cells bytes) c state live store starts
+        unfoldable pub below-carries : Carriable plan (cells bytes) c state live store starts
         below-carries =
             let l = gone-live (o .gone) in
             let k = subst (JudgedAs (roomsOf live store) (o .after)) e (j .judged (o .program) (o .leaves) (o .after) (cells bytes) (length-cells bytes ∙ sym q) (o .carries) (o .held) (o .ready)) in

@@ -3,6 +3,7 @@ pub mod Acted
 pub mod Left
 pub mod Apart
 pub mod ActedLaws
+pub mod Eased
 pub mod BusyLaws
 pub mod ThrowLaws
 pub mod Operands

@@ -3,7 +3,7 @@ ghost use mathlib.Core.Path.{_≡_};
 ghost use Prim.Native.Nat.{_≤_, _<_};
 ghost use Rattle.cells.specs.Cells.{cells};
 ghost use Rattle.scan.specs.Tables.{programIn};
-ghost use Rattle.acts.specs.Acted.{Judgeable, Judges, Overable, ActsOver, Belowable, ActsBelow, leftOf, Failable, Fails};
+ghost use Rattle.acts.specs.Acted.{Judgeable, Judges, Eases, Standing, standingCounts, Overable, ActsOver, Belowable, ActsBelow, leftOf, Failable, Fails};
 use moves::Running;
 use plan::Counts;
 use plan::Error;
@@ -29,6 +29,40 @@ fn judge(plan: Plan, n: usize, live: &[u8], store: &[u8], starts: &[u32], c: Cou
     Acted::Done(after)
 }
 
+// How many frames a resume puts on top that has room however much its last frame keeps; 0 where that is not known.
+// To judge it as the others its frames would be walked over to the last one, and once more to put them back.
+fn easy(plan: Plan, n: usize, live: &[u8], store: &[u8], starts: &[u32], c: Counts) -> usize
+    requires { ⌜ Judgeable plan n c (now live) (now store) (now starts) ⌝ }
+    ensures { λ r. ⌜ Eases plan n c (now (live .entry)) (now (store .entry)) (now (starts .entry)) r ⌝ }
+{
+    if let Plan::Resumes(handle, _) = plan {
+        let count = cells::number(store, handle) as usize;
+        let size = cells::payload(store, handle) as usize;
+        if c.frames + count > 256 {
+            return 0;
+        }
+        if c.live + size + 1 > cells::room(live) {
+            return 0;
+        }
+        return count;
+    }
+    0
+}
+
+// What a machine has whose frames stand.
+fn standing(live: &[u8], starts: &[u32], frames: usize, store: usize) -> Counts
+    requires { ⌜ Standing (cells (now live)) (now starts) frames ⌝ }
+    ensures { λ r. ⌜ r ≡ standingCounts (cells (now (live .entry))) (now (starts .entry)) frames store ⌝ }
+{
+    let top = frames - 1;
+    let g = moves::open(live, starts[top] as usize);
+    Counts {
+        frames,
+        live: moves::end(g),
+        store,
+    }
+}
+
 // A plan over the running frame g, of which `left` is left. Where it is refused, the frame is written as it was.
 pub fn over(
     plan: Plan,
@@ -44,10 +78,17 @@ pub fn over(
     requires { ⌜ Overable plan (cells (now args)) c g left (now state) (now live) (now store) (now starts) ⌝ }
     ensures { λ r. ⌜ ActsOver plan (cells (now (args .entry))) c g left r (now (state .entry)) (now (live .entry)) (now (store .entry)) (now (starts .entry)) (now (state .exit)) (now (live .exit)) (now (store .exit)) (now (starts .exit)) ⌝ }
 {
-    match judge(plan, cells::room(args), live, store, starts, c) {
-        Acted::Refused(n) => {
+    let n = cells::room(args);
+    let more = easy(plan, n, live, store, starts, c);
+    if more != 0 {
+        moves::settle(live, left);
+        actions::carry(plan, args, state, live, store, starts, c);
+        return Acted::Done(standing(live, starts, c.frames + more, c.store));
+    }
+    match judge(plan, n, live, store, starts, c) {
+        Acted::Refused(k) => {
             moves::settle(live, g);
-            Acted::Refused(n)
+            Acted::Refused(k)
         }
         Acted::Done(after) => {
             moves::settle(live, left);
@@ -72,10 +113,16 @@ pub fn below(
     requires { ⌜ Belowable plan (cells (now args)) c g (now state) (now live) (now store) (now starts) ⌝ }
     ensures { λ r. ⌜ ActsBelow plan (cells (now (args .entry))) c g r (now (state .entry)) (now (live .entry)) (now (store .entry)) (now (starts .entry)) (now (state .exit)) (now (live .exit)) (now (store .exit)) (now (starts .exit)) ⌝ }
 {
-    match judge(plan, cells::room(args), live, store, starts, c) {
-        Acted::Refused(n) => {
+    let n = cells::room(args);
+    let more = easy(plan, n, live, store, starts, c);
+    if more != 0 {
+        actions::carry(plan, args, state, live, store, starts, c);
+        return Acted::Done(standing(live, starts, c.frames + more, c.store));
+    }
+    match judge(plan, n, live, store, starts, c) {
+        Acted::Refused(k) => {
             moves::settle(live, g);
-            Acted::Refused(n)
+            Acted::Refused(k)
         }
         Acted::Done(after) => {
             actions::carry(plan, args, state, live, store, starts, c);

@@ -114,8 +114,8 @@ pub fn lay(live: &[u8], work: &mut [u8], starts: &mut [u32], frames: usize, word
     requires { ⌜ Layable frames (now live) (now work) (now starts) ⌝ }
     ensures { λ r. ⌜ Lays frames word r (now (live .entry)) (now (work .entry)) (now (starts .entry)) (now (work .exit)) (now (starts .exit)) ⌝ }
 {
-    let end = moves::starts(live, starts, frames);
-    cells::copy(work, 0, live, 0, end);
+    let end = placing::starts(live, starts, frames);
+    blocks::copy(work, 0, live, 0, end);
     let top = frames - 1;
     set_word(work, starts[top] as usize, word);
     end

@@ -17,7 +17,7 @@ pub fn list_rest(store: &mut [u8], at: usize, args: &[u8], p: Params)
 {
     if p.variadic {
         let count = p.count as usize;
-        moves::new_object(store, at, 129, 0, args, count, cells::room(args) - count);
+        objects::new_object(store, at, 129, 0, args, count, cells::room(args) - count);
     }
 }
 
@@ -47,7 +47,7 @@ fn push_from(live: &mut [u8], g: Running, args: &[u8], n: usize) -> Running
     requires { ⌜ (endOf g + n ≤ room (now live)) × (n ≤ room (now args)) ⌝ }
     ensures { λ r. ⌜ PushesFrom n (cells (now (args .entry))) g (now (live .entry)) r (now (live .exit)) ⌝ }
 {
-    cells::copy(live, moves::end(g), args, 0, n);
+    blocks::copy(live, moves::end(g), args, 0, n);
     Running {
         base: g.base,
         locals: g.locals,

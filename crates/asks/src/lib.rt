@@ -128,7 +128,7 @@ fn named_in(
     let tag = v.tag;
     match tag {
         4 | 5 => {
-            let c = program::constant(
+            let c = lookups::constant(
                 image,
                 &rows[..end],
                 &constants[..used],

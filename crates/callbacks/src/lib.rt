@@ -138,7 +138,7 @@ fn reply(
             if done.refusal != 0 {
                 return done.refusal;
             }
-            cells::copy(live, 0, &work, 0, done.live);
+            blocks::copy(live, 0, &work, 0, done.live);
             0
         }
     }

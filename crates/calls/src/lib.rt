@@ -218,8 +218,8 @@ fn call_closure(
 {
     let code = cells::number(store, f.number as usize) as usize;
     let p = Params {
-        count: program::params(image, rows, code),
-        variadic: program::variadic(image, rows, code) == 1,
+        count: lookups::params(image, rows, code),
+        variadic: lookups::variadic(image, rows, code) == 1,
     };
     if !check_args(p, n) {
         let x = wrong_count(p, n);
@@ -240,7 +240,7 @@ fn call_closure(
         Start {
             kind: 64,
             subject: f,
-            locals: program::locals(image, rows, code) as u32,
+            locals: lookups::locals(image, rows, code) as u32,
         },
         p,
     )

@@ -100,7 +100,7 @@ pub fn capture(
 {
     let above = starts[i + 1] as usize;
     let size = c.live - above;
-    moves::new_object(
+    objects::new_object(
         store,
         c.store,
         130,

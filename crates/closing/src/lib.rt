@@ -54,7 +54,7 @@ fn call(
             values::meta_un_operator(0, values::type_of(f)),
         );
     }
-    cells::copy(args, 0, live, moves::end(g) - n, n);
+    blocks::copy(args, 0, live, moves::end(g) - n, n);
     let given = &args[..16 * n];
     let plan = calls::call_function(
         image,
@@ -121,7 +121,7 @@ fn tail_call(
             values::meta_un_operator(0, values::type_of(f)),
         );
     }
-    cells::copy(args, 0, live, moves::end(g) - n, n);
+    blocks::copy(args, 0, live, moves::end(g) - n, n);
     let given = &args[..16 * n];
     let under = frames - 1;
     let plan = calls::call_function(
@@ -252,7 +252,7 @@ pub fn effect_callback(
     let base = starts[under] as usize;
     let g = moves::open(live, base);
     let n = g.stack;
-    cells::copy(args, 0, live, moves::end(g) - n, n);
+    blocks::copy(args, 0, live, moves::end(g) - n, n);
     let plan = calls::perform_effect_with(
         image,
         rows,

@@ -2,7 +2,7 @@
 use mathlib.Core.Path.{_≡_}
 use mathlib.Core.List.{List}
 use Prim.Native.Nat.{ℕ, _+_, _-_, _<_, _≤_}
-use lib.ListN.{length, getD, drop}
+use lib.ListN.{length, getD}
 use lib.Dec.{ltb}
 use Rattle.cells.specs.Cells.{null}
 use Rattle.cells.specs.declared.Cell.{Cell}
@@ -10,9 +10,9 @@ use Rattle.image.specs.Records.{if?}
 use Rattle.machine.specs.Values.{Program}
 use Rattle.machine.specs.Machine.{M}
 use Rattle.machine.specs.Calls.{Sizes}
-use Rattle.memory.specs.View.{framesSize}
 use Rattle.moves.specs.Runs.{endOf}
 use Rattle.moves.specs.Frames.{Live, keptIn}
+use Rattle.moves.specs.Objects.{lastOf}
 use Rattle.plan.specs.Rest.{Held}
 use Rattle.plan.specs.Plans.{takenCount, listedCells, Carries}
 use Rattle.plan.specs.declared.Counts.{Counts}
@@ -53,10 +53,6 @@ pub record Countable (plan : Plan) (n : ℕ) (c : Counts) (L S : List Cell) (sta
 -- ---- The numbers of each plan
 abbrev pub startedCounts : Counts → ℕ → Params → ℕ → Counts
 startedCounts c locals p n = record { frames = c .frames + 1; live = c .live + 6 + locals + takenCount p n; store = c .store + listedCells p n }
-
--- the last frame of the continuation at h begins here
-abbrev pub lastOf : ℕ → List Cell → ℕ
-lastOf h S = h + 1 + framesSize (getD S h null .number - 1) (drop (h + 1) S)
 
 abbrev pub resumedCounts : Counts → ℕ → List Cell → Counts
 resumedCounts c h S = record { frames = c .frames + getD S h null .number; live = c .live + (endOf (keptIn S (lastOf h S)) - (h + 1)) + 1; store = c .store }

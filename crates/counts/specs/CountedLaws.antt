@@ -18,14 +18,14 @@ use Rattle.memory.specs.View.{framesSize}
 use Rattle.memory.specs.Lists.{writtenCost, cost-written, length-flat, flat-append, cost-append}
 use Rattle.moves.specs.Runs.{Top, endOf, top-length}
 use Rattle.moves.specs.Frames.{Live, live-stands, keptStack, keptIn, kept-opened, give-written, receive-written, newWritten}
-use Rattle.moves.specs.Objects.{There, object-there, sizes}
+use Rattle.moves.specs.Objects.{There, lastOf, object-there, sizes}
 use Rattle.moves.specs.Starts.{lower}
 use Rattle.plan.specs.Rest.{countsOf, Begins, Held}
 use Rattle.plan.specs.Plans.{takenCount, listedCells, Enough, Started, Resumed, Handled, Received}
 use Rattle.plan.specs.declared.Counts.{Counts}
 use Rattle.plan.specs.declared.Params.{Params}
 use Rattle.plan.specs.declared.Start.{Start}
-use Rattle.counts.specs.Counted.{startedCounts, lastOf, resumedCounts, handledCounts, receivedCounts, Resumable, Handleable, Receivable}
+use Rattle.counts.specs.Counted.{startedCounts, resumedCounts, handledCounts, receivedCounts, Resumable, Handleable, Receivable}
 
 -- ---- Parsed arguments
 pub length-parsed : (p : Params) (args : List Cell) (s : List Object) → Enough p (length args) → length (parse (p .variadic) (p .count) args s .args) ≡ takenCount p (length args)

@@ -11,11 +11,12 @@ use Rattle.image.specs.Records.{if?}
 use Rattle.memory.specs.View.{framesSize}
 use Rattle.moves.specs.Runs.{endOf}
 use Rattle.moves.specs.Frames.{keptIn}
+use Rattle.moves.specs.Objects.{lastOf}
 use Rattle.moves.specs.declared.Running.{Running}
 use Rattle.plan.specs.Plans.{takenCount, listedCells, Enough}
 use Rattle.plan.specs.declared.Counts.{Counts}
 use Rattle.plan.specs.declared.Params.{Params}
-use Rattle.counts.specs.Counted.{startedCounts, lastOf, resumedCounts, handledCounts, receivedCounts, Resumable, Handleable, Receivable}
+use Rattle.counts.specs.Counted.{startedCounts, resumedCounts, handledCounts, receivedCounts, Resumable, Handleable, Receivable}
 
 -- ---- Parsed arguments
 module _ (p : Params) (n : ℕ) where

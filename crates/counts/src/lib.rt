@@ -53,7 +53,7 @@ fn resumed(c: Counts, store: &[u8], handle: usize) -> Counts
     ensures { λ r. ⌜ r ≡ resumedCounts c handle (cells (now (store .entry))) ⌝ }
 {
     let count = cells::number(store, handle) as usize;
-    let last = moves::last_frame(store, handle + 1, count);
+    let last = placing::last_frame(store, handle + 1, count);
     let g = moves::kept(store, last);
     Counts {
         frames: c.frames + count,

@@ -33,7 +33,7 @@ pub fn constant_of(
             size: 0,
         };
     }
-    program::constant(image, rows, constants, code, v.payload as usize)
+    lookups::constant(image, rows, constants, code, v.payload as usize)
 }
 
 // Are two effects equal?
@@ -56,7 +56,7 @@ pub fn equal_effects(
     }
     let x = constant_of(image, rows, constants, inner, codes, a);
     let y = constant_of(image, rows, constants, inner, codes, b);
-    program::same_effect(program::content(image, x), program::content(image, y))
+    contents::same_effect(contents::content(image, x), contents::content(image, y))
 }
 
 // The parameters of an effect: a builtin has one.
@@ -77,7 +77,7 @@ pub fn effect_params(
         };
     }
     let c = constant_of(image, rows, constants, inner, codes, e);
-    let body = program::content(image, c);
+    let body = contents::content(image, c);
     Params {
         count: program::le16(body, 2),
         variadic: program::le16(body, 4) == 1,

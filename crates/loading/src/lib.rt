@@ -82,7 +82,7 @@ fn fresh_store(store: &mut [u8], captures: usize)
             payload: captures as u64,
         },
     );
-    cells::fill(store, 1, captures, asks::null());
+    blocks::fill(store, 1, captures, asks::null());
 }
 
 // The state block of the loaded world: only what the store uses.
@@ -91,7 +91,7 @@ fn fresh_state(state: &mut [u8], captures: usize)
     ensures { λ _. ⌜ Writes (now (state .entry)) (freshState captures) (now (state .exit)) ⌝ }
 {
     headed(state, 1 + captures as u64);
-    cells::fill(state, 2, 514, asks::null());
+    blocks::fill(state, 2, 514, asks::null());
 }
 
 // The loaded world: one closure in the store, and an empty state block.

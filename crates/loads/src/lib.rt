@@ -123,7 +123,7 @@ pub fn load_upvalue(store: &[u8], live: &mut [u8], g: Running, handle: usize, x:
     requires { ⌜ (endOf g ≤ room (now live)) × (handle + 1 + x < room (now store)) ⌝ }
     ensures { λ n. ⌜ ((P : Program) → DoesWhere (λ m r. Stored (m .store) (cells (now (store .entry))) × (handle ≡ r .handle) × (x < length (r .upvalues))) P 5 x g n (now (live .entry)) (now (live .exit))) ⌝ }
 {
-    let v = moves::upvalue(store, handle, x as usize);
+    let v = objects::upvalue(store, handle, x as usize);
     push_value(live, g, v)
 }
 

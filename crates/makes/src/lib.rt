@@ -47,7 +47,7 @@ pub fn build_list(live: &mut [u8], store: &mut [u8], g: Running, used: usize, x:
     if cells::room(store) - used < 1 + n {
         return Made::Refused(15);
     }
-    moves::new_object(store, used, 129, 0, live, moves::end(h), n);
+    objects::new_object(store, used, 129, 0, live, moves::end(h), n);
     let list = Cell {
         tag: 6,
         number: used as u32,
@@ -70,11 +70,11 @@ fn captured(
     requires { ⌜ Capturable (now image) (now rows) g handle code i (now live) (now store) ⌝ }
     ensures { λ r. ⌜ Captured (now (image .entry)) (now (rows .entry)) g handle code i (now (live .entry)) (now (store .entry)) r ⌝ }
 {
-    let c = program::capture(image, rows, code, i);
+    let c = lookups::capture(image, rows, code, i);
     if c.from == 0 {
         return moves::local(live, g, c.index as usize);
     }
-    moves::upvalue(store, handle, c.index as usize)
+    objects::upvalue(store, handle, c.index as usize)
 }
 
 // A closure of an inner code, at the end of the store; it is pushed.
@@ -102,7 +102,7 @@ pub fn make_closure(
     if cells::room(store) - used < 1 + n {
         return Made::Refused(15);
     }
-    moves::new_closure(store, used, code as u32, n);
+    objects::new_closure(store, used, code as u32, n);
     let mut i = 0;
     while i < n {
         let v = captured(image, rows, live, store, g, handle, code, i);

@@ -243,6 +243,10 @@ copy-top {w} {g} {S} A B L D free at from o i d a =
       counts = record { locals = o .counts .locals; handlers = o .counts .handlers; stack = o .counts .stack; place = o .counts .place };
     }
 
+-- the last frame of the continuation at h begins here
+abbrev pub lastOf : ℕ → List Cell → ℕ
+lastOf h S = h + 1 + framesSize (getD S h null .number - 1) (drop (h + 1) S)
+
 -- the frames below, the continuation at the handle, and room for both and a value
 pub record Kept (v : Cell) (at handle : ℕ) (live store : List ℕ) : Type 0 where
   pub below : List Frame

@@ -2,17 +2,12 @@
 // A frame that runs has its counts and its place in registers; reads and moves of it are said of any frame that its registers hold (`Top`).
 ghost use mathlib.Core.Path.{_≡_};
 ghost use mathlib.Core.List.{List};
-ghost use Prim.Native.Nat.{ℕ, _+_, _-_, _≤_, _<_};
-ghost use lib.ListN.{length, getD, set, take, drop};
-ghost use Rattle.cells.specs.Cells.{null, room, cells, Sound, Writes};
-ghost use Rattle.machine.specs.Values.{cell};
-ghost use Rattle.machine.specs.Machine.{Object, closure, here, objectAt, give, receive};
+ghost use Prim.Native.Nat.{_+_, _≤_, _<_};
+ghost use lib.ListN.{getD, take, drop};
+ghost use Rattle.cells.specs.Cells.{null, room, cells, Sound};
 ghost use Rattle.memory.specs.Layout.{Written};
-ghost use Rattle.memory.specs.View.{framesSize};
 ghost use Rattle.moves.specs.Runs.{Top, Turns, Settles, stackAt, endOf, withCounts, opened, pushed, pushedAll, setTop, setLocal, noHandler, addHandler, setHandler, clearHandlers};
-ghost use Rattle.moves.specs.Frames.{keptIn, Lands, Gets, newWritten, Starts};
-ghost use Rattle.moves.specs.Objects.{made, Stored, Kept, Resumed};
-ghost use Rattle.moves.specs.Starts.{Starting};
+ghost use Rattle.moves.specs.Frames.{keptIn};
 use cells::Cell;
 
 // The frame that runs: where it begins, its counts and its place. Its head need not show the last three until it is settled.
@@ -91,7 +86,7 @@ pub fn push_values(live: &mut [u8], g: Running, from: usize, n: usize) -> Runnin
     requires { ⌜ (endOf g + n ≤ room (now live)) × (from + n ≤ room (now live)) ⌝ }
     ensures { λ r. ⌜ (r ≡ withCounts (g .handlers) (g .stack + n) g) × Turns (pushedAll (take n (drop from (cells (now (live .entry)))))) g (now (live .entry)) r (now (live .exit)) ⌝ }
 {
-    cells::copy_within(live, end(g), from, n);
+    blocks::copy_within(live, end(g), from, n);
     with_counts(g, g.handlers, g.stack + n)
 }
 
@@ -165,7 +160,7 @@ pub fn add_handler(live: &mut [u8], g: Running, effect: Cell, target: u32, size:
     ensures { λ r. ⌜ (r ≡ withCounts (g .handlers + 1) (g .stack) g) × Turns (addHandler effect target size) g (now (live .entry)) r (now (live .exit)) ⌝ }
 {
     let at = stack_at(g);
-    cells::raise(live, at + 2, at, g.stack);
+    blocks::raise(live, at + 2, at, g.stack);
     cells::put(live, at, effect);
     cells::put(
         live,
@@ -187,7 +182,7 @@ pub fn clear_handlers(live: &mut [u8], g: Running) -> Running
     if g.handlers == 0 {
         return g;
     }
-    cells::lower(live, g.base + 6 + g.locals, stack_at(g), g.stack);
+    blocks::lower(live, g.base + 6 + g.locals, stack_at(g), g.stack);
     with_counts(g, 0, g.stack)
 }
 
@@ -201,181 +196,4 @@ pub fn kept(x: &[u8], base: usize) -> Running
         return g;
     }
     with_counts(g, g.handlers, 0)
-}
-
-// A value goes on the stack of a frame, and its head is written: where the frame ends then.
-fn land(live: &mut [u8], g: Running, v: Cell) -> usize
-    requires { ⌜ (endOf g < room (now live)) × (g .place < 4294967296) ⌝ }
-    ensures { λ r. ⌜ Lands v g (now (live .entry)) r (now (live .exit)) ⌝ }
-{
-    let r = push(live, g, v);
-    settle(live, r);
-    end(r)
-}
-
-// What a resume does to the last frame, which begins at `base`: where the frame ends then.
-pub fn give(live: &mut [u8], base: usize, v: Cell) -> usize
-    requires { ⌜ endOf (keptIn (cells (now live)) base) < room (now live) ⌝ }
-    ensures { λ r. ⌜ Gets (give v) base (now (live .entry)) r (now (live .exit)) ⌝ }
-{
-    let g = kept(live, base);
-    land(live, g, v)
-}
-
-// What a return does to the frame that it returns to: where the frame ends then.
-pub fn receive(live: &mut [u8], base: usize, v: Cell) -> usize
-    requires { ⌜ (endOf (keptIn (cells (now live)) base) ≤ room (now live)) × (endOf (withCounts 0 (keptIn (cells (now live)) base .stack) (keptIn (cells (now live)) base)) < room (now live)) ⌝ }
-    ensures { λ r. ⌜ Gets (receive v) base (now (live .entry)) r (now (live .exit)) ⌝ }
-{
-    let g = kept(live, base);
-    let h = clear_handlers(live, g);
-    land(live, h, v)
-}
-
-// A new frame at `at`, whose arguments are the n cells from `from` on: they go first, since the head and the locals may lie over them.
-pub fn new_frame(
-    live: &mut [u8],
-    at: usize,
-    kind: u32,
-    subject: Cell,
-    locals: u32,
-    from: usize,
-    n: usize,
-)
-    requires { ⌜ (at + 6 + locals + n ≤ room (now live)) × (from + n ≤ room (now live)) ⌝ }
-    ensures { λ _. ⌜ Starts (newWritten kind subject locals (take n (drop from (cells (now (live .entry)))))) at (now (live .entry)) (now (live .exit)) ⌝ }
-{
-    let k = locals as usize;
-    cells::copy_within(live, at + 6 + k, from, n);
-    cells::put(
-        live,
-        at,
-        Cell {
-            tag: kind,
-            number: locals,
-            payload: 0,
-        },
-    );
-    cells::put(live, at + 1, subject);
-    cells::put(
-        live,
-        at + 2,
-        Cell {
-            tag: 68,
-            number: 0,
-            payload: n as u64,
-        },
-    );
-    cells::fill(
-        live,
-        at + 3,
-        3 + k,
-        Cell {
-            tag: 0,
-            number: 0,
-            payload: 0,
-        },
-    );
-}
-
-// A new object at `at`, the end of the store: its first cell, and n cells of the live stack as they are. A list, a closure, or a continuation: a capture is this block copy.
-pub fn new_object(
-    store: &mut [u8],
-    at: usize,
-    kind: u32,
-    number: u32,
-    live: &[u8],
-    from: usize,
-    n: usize,
-)
-    requires { ⌜ (at + 1 + n ≤ room (now store)) × (from + n ≤ room (now live)) ⌝ }
-    ensures { λ _. ⌜ Writes (now (store .entry)) (made (cells (now (store .entry))) at kind number (cells (now (live .entry))) from n) (now (store .exit)) ⌝ }
-{
-    cells::put(
-        store,
-        at,
-        Cell {
-            tag: kind,
-            number,
-            payload: n as u64,
-        },
-    );
-    cells::copy(store, at + 1, live, from, n);
-}
-
-// The first cell of a new closure at `at`: its n upvalues are put behind it one by one.
-pub fn new_closure(store: &mut [u8], at: usize, code: u32, n: usize)
-    requires { ⌜ at < room (now store) ⌝ }
-    ensures { λ _. ⌜ Writes (now (store .entry)) (set (cells (now (store .entry))) at (cell 128 code n)) (now (store .exit)) ⌝ }
-{
-    cells::put(
-        store,
-        at,
-        Cell {
-            tag: 128,
-            number: code,
-            payload: n as u64,
-        },
-    );
-}
-
-// An upvalue of the closure at a handle.
-pub fn upvalue(store: &[u8], handle: usize, i: usize) -> Cell
-    requires { ⌜ handle + 1 + i < room (now store) ⌝ }
-    ensures { λ r. ⌜ ((s : List Object) (code : ℕ) (us : List Cell) → Stored s (cells (now (store .entry))) → objectAt s handle ≡ here (closure code us) → i < length us → r ≡ getD us i null) × Sound r ⌝ }
-{
-    cells::get(store, handle + 1 + i)
-}
-
-// Where the last of so many frames from `from` on begins.
-pub fn last_frame(x: &[u8], from: usize, count: usize) -> usize
-    requires { ⌜ (0 < count) × (from + framesSize (count - 1) (drop from (cells (now x))) ≤ room (now x)) ⌝ }
-    ensures { λ r. ⌜ r ≡ from + framesSize (count - 1) (drop from (cells (now (x .entry)))) ⌝ }
-{
-    let mut at = from;
-    let mut left = count;
-    while 1 < left {
-        at = end(open(x, at));
-        left -= 1;
-    }
-    at
-}
-
-// The frames of the continuation at a handle go on top, and v to the last of them: how many cells of the live stack are used then.
-pub fn put_back(live: &mut [u8], at: usize, store: &[u8], handle: usize, v: Cell) -> usize
-    requires { ⌜ Kept v at handle (now live) (now store) ⌝ }
-    ensures { λ r. ⌜ Resumed v at handle (now (live .entry)) (now (store .entry)) r (now (live .exit)) ⌝ }
-{
-    let count = cells::number(store, handle) as usize;
-    let from = handle + 1;
-    let last = last_frame(store, from, count);
-    let g = kept(store, last);
-    cells::copy(live, at, store, from, end(g) - from);
-    land(
-        live,
-        Running {
-            base: at + (last - from),
-            locals: g.locals,
-            handlers: g.handlers,
-            stack: g.stack,
-            place: g.place,
-        },
-        v,
-    )
-}
-
-// Where each of the frames begins, and how many cells they have together.
-pub fn starts(live: &[u8], table: &mut [u32], count: usize) -> usize
-    requires { ⌜ (framesSize count (cells (now live)) ≤ room (now live)) × (room (now live) ≤ 65536) × (count ≤ length (now table)) ⌝ }
-    ensures { λ r. ⌜ Starting (cells (now (live .entry))) count (now (table .entry)) r (now (table .exit)) ⌝ }
-{
-    let mut at = 0;
-    let mut i = 0;
-    while i < count {
-        let next = end(open(live, at));
-        table[i] = at as u32;
-        at = next;
-        i += 1;
-    }
-    at
 }

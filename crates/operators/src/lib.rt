@@ -96,7 +96,7 @@ fn same_text(
 {
     let x = effects::constant_of(image, rows, constants, inner, codes, a);
     let y = effects::constant_of(image, rows, constants, inner, codes, b);
-    program::same(program::content(image, x), program::content(image, y))
+    contents::same(contents::content(image, x), contents::content(image, y))
 }
 
 // Null, Bool, Int and Effect by value, Str by bytes; any other pair is unequal.

@@ -38,7 +38,7 @@ fn run_lent(
     let mut starts = [0u32; 256];
     let mut args = [0u8; 65536];
     let frames = states::frames(state) as usize;
-    let end = moves::starts(live, &mut starts, frames);
+    let end = placing::starts(live, &mut starts, frames);
     let c = Counts {
         frames,
         live: end + cells::payload(state, 3) as usize,

@@ -57,7 +57,7 @@ fn is_constant(
     if v.payload >= program::field(rows, code, 7) as u64 {
         return false;
     }
-    let c = program::constant(image, rows, constants, code, v.payload as usize);
+    let c = lookups::constant(image, rows, constants, code, v.payload as usize);
     c.kind == kind
 }
 
@@ -75,14 +75,14 @@ fn is_declared(
     if !is_constant(image, rows, constants, inner, codes, 23, v) {
         return false;
     }
-    let c = program::constant(
+    let c = lookups::constant(
         image,
         rows,
         constants,
         v.number as usize,
         v.payload as usize,
     );
-    program::effect_number(program::content(image, c)) == 3
+    contents::effect_number(contents::content(image, c)) == 3
 }
 
 // Is a cell a value whose handle, if it has one, stands in the store below a place?
@@ -280,7 +280,7 @@ fn lucia_fits(
     if cells::number(x, at + 2) as usize >= opcodes {
         return Limit::Misfit;
     }
-    if cells::number(x, at) != program::locals(image, rows, code) as u32 {
+    if cells::number(x, at) != lookups::locals(image, rows, code) as u32 {
         return Limit::Misfit;
     }
     Limit::Below(opcodes)

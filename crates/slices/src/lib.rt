@@ -77,7 +77,7 @@ pub fn run_slice(
     let mut left = begun;
     let mut ticks = given;
     while ticks > 0 {
-        let o = program::opcode(image, rows, code, g.place);
+        let o = lookups::opcode(image, rows, code, g.place);
         match steps::step(
             image,
             rows,

@@ -144,7 +144,7 @@ fn stack_opcode(
             live,
             g,
             x,
-            program::global(image, rows, code, x as usize),
+            lookups::global(image, rows, code, x as usize),
         ),
         Stack::LoadUpvalue => loads::load_upvalue(store, live, g, handle, x),
         Stack::StoreLocal => loads::store_local(live, g, x),
@@ -242,10 +242,10 @@ fn load_const(
     requires { ⌜ ReadyWith (programIn (now image) (now rows) (now constants) (now inner) codes) g handle code used (record { number = 6; operand = x }) (now live) (now store) ⌝ }
     ensures { λ r. ⌜ ((state : List ℕ) → Steps (programIn (now (image .entry)) (now (rows .entry)) (now (constants .entry)) (now (inner .entry)) codes) g handle code used (record { number = 6; operand = x }) r state (now (live .entry)) (now (store .entry)) state (now (live .exit)) (now (store .exit))) ⌝ }
 {
-    let c = program::constant(image, rows, constants, code, x as usize);
+    let c = lookups::constant(image, rows, constants, code, x as usize);
     if c.kind == 22 {
-        let j = program::le16(program::content(image, c), 0) as usize;
-        let k = program::inner_code(rows, inner, code, j);
+        let j = program::le16(contents::content(image, c), 0) as usize;
+        let k = lookups::inner_code(rows, inner, code, j);
         return from_made(makes::make_closure(
             image,
             rows,
@@ -305,7 +305,7 @@ fn making_opcode(
                 live,
                 g,
                 x,
-                program::global(image, rows, code, x as usize),
+                lookups::global(image, rows, code, x as usize),
             ),
             used,
         ),
@@ -410,7 +410,7 @@ fn quick_const(
     requires { ⌜ ReadyWith (programIn (now image) (now rows) (now constants) (now inner) codes) g handle code used (record { number = 6; operand = x }) (now live) (now store) ⌝ }
     ensures { λ r. ⌜ Quickly (programIn (now (image .entry)) (now (rows .entry)) (now (constants .entry)) (now (inner .entry)) codes) g handle code (record { number = 6; operand = x }) r (now (live .entry)) (now (store .entry)) (now (live .exit)) ⌝ }
 {
-    let c = program::constant(image, rows, constants, code, x as usize);
+    let c = lookups::constant(image, rows, constants, code, x as usize);
     if c.kind == 18 {
         return quick_next(loads::load_const(image, live, g, code as u32, x, c));
     }

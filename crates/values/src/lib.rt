@@ -132,7 +132,7 @@ pub fn constant_value(image: &[u8], code: u32, i: u32, c: Constant) -> Cell
     ensures { λ r. ⌜ ((cs : List Code) → r ≡ constantValue (record { image = now (image .entry); codes = cs }) code i c) ⌝ }
 {
     let kind = c.kind;
-    let body = program::content(image, c);
+    let body = contents::content(image, c);
     match kind {
         17 => Cell {
             tag: 1,
