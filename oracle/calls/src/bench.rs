@@ -77,7 +77,7 @@ fn loads() {
         let mut lending = Lending::new(&mut Random::new(1), &Default::default(), loans);
         let mut memory = lending.memory();
         let ours = time(|| {
-            black_box(ours::call(black_box(&image), &mut memory, &[], &Call::Load));
+            black_box(ours::call(black_box(&image), &mut memory, &mut [], &[], &Call::Load));
         });
         let oracle = time(|| {
             black_box(image::parse(black_box(&image))).ok();
@@ -129,7 +129,7 @@ fn entry(image: &[u8], program: &Program, snapshot: &Snapshot) -> Result<Duratio
     }
     let mut memory = lending.memory();
     Ok(time(|| {
-        black_box(ours::call(black_box(image), &mut memory, &[], &call));
+        black_box(ours::call(black_box(image), &mut memory, &mut [], &[], &call));
     }))
 }
 

@@ -7,6 +7,7 @@ use player::{
     cell::Cell,
     damage::damage,
     generate::{self, State},
+    hold::Ready,
     image::{self, Program},
     memory::write,
     random::Random,
@@ -14,8 +15,10 @@ use player::{
 };
 
 use crate::{
+    held::{self, Image, Parsed},
     near::{Names, near, number, page},
     odd::Odd,
+    running::{fuel, running_call},
     trial::{Lending, Trial},
 };
 
@@ -33,13 +36,16 @@ const FEATURES: usize = 10;
 /// Cells of the state block in front of the globals.
 const HEAD: usize = 4;
 
-/// How often a kind of change was answered with a refusal of the image, with 10, with 7, and otherwise.
+/// How often a kind of change was answered with a refusal of the image, with 10, with 7, and otherwise; every second call is a start, run or answer.
 #[derive(Clone, Copy, Default)]
 struct Count {
     image: u64,
     not_loaded: u64,
     refused: u64,
     accepted: u64,
+    /// Of these starts, runs and answers; and on states that the Rust can't hold.
+    running: u64,
+    unknown: u64,
 }
 
 #[derive(Default)]
@@ -58,10 +64,12 @@ impl Damage {
 
     pub fn tally(&self) -> String {
         let mut lines = vec![format!("{} calls on {} states", self.calls(), self.states)];
-        lines.push(format!("{:<14} {:>9} {:>9} {:>9} {:>9}", "change", "7", "10", "1 to 4", "accepted"));
+        let head = ["7", "10", "1 to 4", "others", "running", "no Rust"].map(|name| format!(" {name:>9}"));
+        lines.push(format!("{:<14}{}", "change", head.concat()));
         for (name, count) in KINDS.iter().zip(self.counts) {
-            let Count { image, not_loaded, refused, accepted } = count;
-            lines.push(format!("{name:<14} {refused:>9} {not_loaded:>9} {image:>9} {accepted:>9}"));
+            let Count { image, not_loaded, refused, accepted, running, unknown } = count;
+            let columns = [refused, not_loaded, image, accepted, running, unknown].map(|count| format!(" {count:>9}"));
+            lines.push(format!("{name:<14}{}", columns.concat()));
         }
         lines.extend(self.held.iter().map(|(name, count)| format!("{count:>6} states with {name}")));
         lines.join("\n")
@@ -111,6 +119,7 @@ struct Damaged<'a> {
     random: Random,
     image: &'a [u8],
     program: Rc<Program>,
+    ready: Rc<Ready>,
     names: Names,
     snapshot: &'a Snapshot,
     /// State block, live stack and store, with a few cells behind the used ones.
@@ -128,8 +137,9 @@ impl<'a> Damaged<'a> {
         let mut good = write(&state.snapshot).bytes();
         let used = good.each_ref().map(Vec::len);
         good[1..].iter_mut().for_each(|loan| add_free(&mut random, &names, loan));
-        let program = Rc::new(program);
-        Ok(Damaged { random, image: &state.image, program, names, snapshot: &state.snapshot, good, used, turn: 0 })
+        let ready = Rc::new(Ready::new(&state.image, program.clone()));
+        let (image, program, snapshot) = (&state.image, Rc::new(program), &state.snapshot);
+        Ok(Damaged { random, image, program, ready, names, snapshot, good, used, turn: 0 })
     }
 
     fn run(mut self, whole: bool, counts: &mut [Count; 5]) -> Result<(), String> {
@@ -176,9 +186,8 @@ impl<'a> Damaged<'a> {
     fn change_image(&mut self, count: &mut Count) -> Result<(), String> {
         let good = self.good.clone();
         (0..IMAGES).try_for_each(|_| {
-            let image = damage(self.image, &mut self.random);
-            let program = image::parse(&image);
-            self.try_with(&image, program.as_ref().map_err(|&number| number), &good, count)
+            let parsed = Parsed::new(damage(self.image, &mut self.random));
+            self.try_with(&parsed.image(), &good, count)
         })
     }
 
@@ -208,23 +217,23 @@ impl<'a> Damaged<'a> {
     }
 
     fn try_it(&mut self, damaged: &[Vec<u8>; 3], count: &mut Count) -> Result<(), String> {
-        let (image, program) = (self.image, Rc::clone(&self.program));
-        self.try_with(image, Ok(&program), damaged, count)
+        let (program, ready) = (Rc::clone(&self.program), Rc::clone(&self.ready));
+        self.try_with(&Image { bytes: self.image, program: Ok((&program, &ready)) }, damaged, count)
     }
 
-    fn try_with(
-        &mut self,
-        image: &[u8],
-        program: Result<&Program, u32>,
-        damaged: &[Vec<u8>; 3],
-        count: &mut Count,
-    ) -> Result<(), String> {
+    fn try_with(&mut self, image: &Image, damaged: &[Vec<u8>; 3], count: &mut Count) -> Result<(), String> {
         let [state, live, store] = damaged.each_ref().map(Vec::len);
         let mut lending = Lending::new(&mut self.random, damaged, Loans { state, live, store });
-        let call = self.next_call();
-        let page = page(&mut self.random);
-        let trial = Trial { image, program, page: &page, call: &call };
-        *match trial.run(&mut lending)?.code {
+        self.turn += 1;
+        let number = if self.turn.is_multiple_of(2) {
+            self.try_running(image, &mut lending, count)?
+        } else {
+            let call = self.next_call();
+            let page = page(&mut self.random);
+            let program = image.program.map(|(program, _)| program);
+            Trial { image: image.bytes, program, page: &page, call: &call }.run(&mut lending)?.code
+        };
+        *match number {
             10 => &mut count.not_loaded,
             7 => &mut count.refused,
             1..=4 => &mut count.image,
@@ -233,12 +242,26 @@ impl<'a> Damaged<'a> {
         Ok(())
     }
 
+    /// A start, run or answer, beside the Rust.
+    fn try_running(&mut self, image: &Image, lending: &mut Lending, count: &mut Count) -> Result<u32, String> {
+        let call = running_call(&mut self.random, &self.names, self.snapshot);
+        let fuel = fuel(&mut self.random);
+        let before = lending.clone();
+        let (answer, known) = held::compare(image, lending, &fuel, &[], &call).map_err(|what| {
+            let program = image.program.map(|(program, _)| program);
+            let what = format!("{what}\nfuel {fuel:?}");
+            Trial { image: image.bytes, program, page: &[], call: &call }.keep(&before, &what)
+        })?;
+        count.running += 1;
+        count.unknown += u64::from(!known);
+        Ok(answer.code)
+    }
+
     /// The calls in turn.
     fn next_call(&mut self) -> Call {
-        self.turn += 1;
         let random = &mut self.random;
         let (number, value) = (number(random), self.names.value(random));
-        match self.turn % 7 {
+        match self.turn / 2 % 7 {
             0 => Call::Clear,
             1 => Call::GetGlobal { number },
             2 => Call::SetGlobal { number, value },

@@ -67,7 +67,7 @@ fn calls(snapshot: &Snapshot, loans: Loans, counts: &mut Counts) -> Result<(), S
         let mut lending = Lending::new(&mut random, &write(snapshot).bytes(), loans);
         let program = program.as_ref().map_err(|&number| number);
         let answer = Trial { image: &image, program, page: &[], call }.run(&mut lending)?;
-        *counts.entry((name(call).unwrap_or_default(), answer.code)).or_default() += 1;
+        *counts.entry((name(call), answer.code)).or_default() += 1;
         Ok(())
     })
 }

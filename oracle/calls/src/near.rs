@@ -112,7 +112,13 @@ impl Names {
         *random.pick(&self.objects)
     }
 
-    fn good(&self, random: &mut Random) -> Cell {
+    /// An effect of the program, or a builtin one.
+    pub fn effect(&self, random: &mut Random) -> Cell {
+        self.constant(random, tag::USER_EFFECT).unwrap_or(Cell::new(tag::BUILTIN_EFFECT, 1, 0))
+    }
+
+    /// A value of any kind.
+    pub fn good(&self, random: &mut Random) -> Cell {
         match random.below(13) {
             0 => Cell::NULL,
             1 => Cell::new(tag::BOOL, random.below(2) as u32, 0),

@@ -30,12 +30,12 @@ pub fn list(seed: u64, counts: &mut Counts, ticks: &mut u64) -> Result<(), Strin
 
 impl Machine for Beside<'_> {
     fn call(&mut self, lent: Lent<'_>, call: &Call) -> Answer {
-        let Call::Run { ticks } = *call else { return self.driver.call(lent, call) };
+        let Call::Run { .. } = call else { return self.driver.call(lent, call) };
         let before = self.driver.snapshot();
         let mut fuel = lent.fuel.to_vec();
         let mut lending = Lending::new(&mut self.random, &write(&before).bytes(), lent.loans);
         let (image, loans, page) = (lent.image, lent.loans, lent.page);
-        let ours = ours::run(image, &mut lending.memory(), &mut fuel, ticks);
+        let ours = ours::call(image, &mut lending.memory(), &mut fuel, page, call);
         let oracle = self.driver.call(Lent { image, loans, fuel: &mut *lent.fuel, page }, call);
         if self.differs.is_ok() {
             self.differs = self.compare(image, &lending, ours, oracle, &fuel, lent.fuel);

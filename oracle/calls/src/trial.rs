@@ -41,6 +41,10 @@ impl Loan {
     fn shown(&self) -> &[u8] {
         &self.bytes[self.start..self.start + self.len]
     }
+
+    fn around(&self) -> [&[u8]; 2] {
+        [&self.bytes[..self.start], &self.bytes[self.start + self.len..]]
+    }
 }
 
 /// State block, live stack and store as they are lent.
@@ -65,6 +69,11 @@ impl Lending {
     pub fn shown(&self) -> [&[u8]; 3] {
         self.loans.each_ref().map(Loan::shown)
     }
+
+    /// Whether the bytes around the loans are the same.
+    pub fn same_around(&self, other: &Lending) -> bool {
+        self.loans.iter().zip(&other.loans).all(|(one, other)| one.around() == other.around())
+    }
 }
 
 /// A call with an image and the program that it holds, or its refusal.
@@ -81,7 +90,7 @@ impl Trial<'_> {
         let before = lending.clone();
         let mut right = before.clone();
         let expected = plain::call(self.program, &mut right.memory(), self.page, self.call);
-        let answer = ours::call(self.image, &mut lending.memory(), self.page, self.call);
+        let answer = ours::call(self.image, &mut lending.memory(), &mut [], self.page, self.call);
         if answer == expected && *lending == right {
             return Ok(answer);
         }

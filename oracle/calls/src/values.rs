@@ -1,5 +1,5 @@
-//! Random lists of calls, the exported ones carried out by ours, by the model and by the oracle; and further calls with every kind of value on each state
-//! that they lead to.
+//! Random lists of calls, those that run nothing carried out by ours, by the model and by the oracle; and further calls with every kind of value on each
+//! state that they lead to.
 
 use std::collections::BTreeMap;
 
@@ -25,7 +25,7 @@ const FURTHER: usize = 12;
 /// How often each call got each answer.
 pub type Counts = BTreeMap<(&'static str, u32), u64>;
 
-/// The oracle, and ours beside it as far as it is exported.
+/// The oracle, and ours beside it for the calls that run nothing.
 struct Beside<'a> {
     driver: Driver,
     random: Random,
@@ -50,7 +50,7 @@ impl Machine for Beside<'_> {
         let before = self.driver.snapshot();
         let answer = self.driver.call(lent, call);
         let program = image::parse(&image);
-        if self.differs.is_ok() && name(call).is_some() {
+        if self.differs.is_ok() && runs_nothing(call) {
             let trial = Trial { image: &image, program: program.as_ref().map_err(|&number| number), page: &page, call };
             self.differs = self.compare(&trial, loans, &before, answer);
         }
@@ -78,7 +78,7 @@ impl Beside<'_> {
         if ours != answer {
             return Err(trial.keep(&copy, &format!("{:?}\nours {ours:?}\noracle {answer:?}", trial.call)));
         }
-        *self.counts.entry((name(trial.call).unwrap_or_default(), answer.code)).or_default() += 1;
+        *self.counts.entry((name(trial.call), answer.code)).or_default() += 1;
         let Ok(program) = trial.program else { return Ok(()) };
         let [state, live, store] = lending.shown();
         match read(program, state, live, store) {
@@ -145,10 +145,13 @@ fn further_call(random: &mut Random, names: &Names) -> Call {
     }
 }
 
-/// The name of a call that is exported so far.
-pub fn name(call: &Call) -> Option<&'static str> {
-    Some(match call {
+/// The name of a call.
+pub fn name(call: &Call) -> &'static str {
+    match call {
         Call::Load => "load",
+        Call::Start { .. } => "start",
+        Call::Run { .. } => "run",
+        Call::Answer { .. } => "answer",
         Call::Clear => "clear",
         Call::Text { .. } => "text",
         Call::Bytes { .. } => "bytes",
@@ -156,6 +159,10 @@ pub fn name(call: &Call) -> Option<&'static str> {
         Call::GetGlobal { .. } => "get_global",
         Call::SetBuiltin { .. } => "set_builtin",
         Call::GetBuiltin { .. } => "get_builtin",
-        Call::Start { .. } | Call::Run { .. } | Call::Answer { .. } => return None,
-    })
+    }
+}
+
+/// Whether the call runs nothing, so that the model of memory carries it out.
+fn runs_nothing(call: &Call) -> bool {
+    !matches!(call, Call::Start { .. } | Call::Run { .. } | Call::Answer { .. })
 }

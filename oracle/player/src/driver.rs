@@ -14,6 +14,7 @@ use lucia::{
 use crate::{
     call::{Answer, Call, LIVE_CELLS, Lent, Loans, Machine, STATE_LENGTH, STORE_CELLS, code, kind},
     cell::Cell,
+    hold::Ready,
     image,
     link::{Linked, name},
     snapshot::Snapshot,
@@ -70,7 +71,7 @@ pub struct Driver {
 
 /// What a load makes; the store comes last, since it must be dropped last.
 pub(crate) struct Loaded {
-    linked: Rc<Linked>,
+    pub linked: Rc<Linked>,
     pub executor: Executor,
     pub context: Context,
     pub wait: bool,
@@ -92,6 +93,11 @@ impl Machine for Driver {
 impl Driver {
     pub fn new() -> Driver {
         Driver::default()
+    }
+
+    /// The machine that holds a snapshot in form (`hold.rs`).
+    pub fn holding(ready: &Ready, snapshot: &Snapshot) -> Option<Driver> {
+        Loaded::holding(ready, snapshot).map(|loaded| Driver { loaded: Some(loaded) })
     }
 
     fn accept(&mut self, lent: Lent<'_>, call: &Call) -> Result<Answer, u32> {
@@ -129,7 +135,7 @@ impl Driver {
 }
 
 impl Loaded {
-    fn new(linked: Rc<Linked>) -> Loaded {
+    pub fn new(linked: Rc<Linked>) -> Loaded {
         Loaded {
             linked,
             executor: Executor::new(),

@@ -6,12 +6,13 @@ mod handlers;
 mod lend;
 mod program;
 mod statements;
+mod tight;
 mod values;
 
 use std::rc::Rc;
 
 use crate::{
-    call::{Call, Machine, code, kind},
+    call::{Call, Loans, Machine, code, kind},
     cell::{Cell, bytes_of, tag},
     driver::Driver,
     image::{self, Program},
@@ -27,17 +28,34 @@ use program::HOST;
 pub fn list(seed: u64, machine: &mut dyn Machine, each: &mut dyn FnMut(&Step, &After)) {
     let mut random = Random::new(seed);
     let calls = 8 + random.below(32);
-    let mut list = List::new(random, machine.snapshot());
-    for number in 0..calls {
-        let call = match number {
-            0 if list.random.chance(19, 20) => Call::Load,
-            1..=3 if list.snapshot.loaded && list.random.chance(14, 15) => list.set_host(number),
-            _ => list.call(),
-        };
-        let step = list.step(call);
-        let after = step.play(machine);
-        each(&step, &after);
-        list.learn(&step, after);
+    let (image, program) = image(&mut random);
+    List::new(random, image, program, machine.snapshot()).play(calls, machine, each);
+}
+
+/// The same for a list near the limits: of frames, handlers, live stack and store, mostly while the host is asked (`tight.rs`).
+pub fn tight_list(seed: u64, machine: &mut dyn Machine, each: &mut dyn FnMut(&Step, &After)) {
+    let mut random = Random::new(!seed);
+    let calls = 12 + random.below(28);
+    let bytes = encode(&tight::program(&mut random));
+    let program = image::parse(&bytes).expect("a program of the template is accepted");
+    let mut list = List::new(random, bytes.into(), program, machine.snapshot());
+    (list.is_tight, list.is_fast) = (true, true);
+    list.play(calls, machine, each);
+}
+
+impl List {
+    fn play(mut self, calls: usize, machine: &mut dyn Machine, each: &mut dyn FnMut(&Step, &After)) {
+        for number in 0..calls {
+            let call = match number {
+                0 if self.random.chance(19, 20) => Call::Load,
+                1..=3 if self.snapshot.loaded && self.random.chance(14, 15) => self.set_host(number),
+                _ => self.call(),
+            };
+            let step = self.step(call);
+            let after = step.play(machine);
+            each(&step, &after);
+            self.learn(&step, after);
+        }
     }
 }
 
@@ -84,27 +102,29 @@ struct List {
     is_fast: bool,
     /// The last call was a run that was refused at an opcode or callback.
     is_stuck: bool,
+    /// Loans and answers are near the limits.
+    is_tight: bool,
 }
 
 impl List {
-    fn new(mut random: Random, snapshot: Snapshot) -> List {
-        let (image, program) = image(&mut random);
+    fn new(mut random: Random, image: Rc<[u8]>, program: Program, snapshot: Snapshot) -> List {
         let lender = Lender::new(&mut random);
         let is_fast = random.chance(1, 3);
-        List { random, lender, image, program, snapshot, fuel: fuel_bytes(100_000, 0), is_fast, is_stuck: false }
+        let fuel = fuel_bytes(100_000, 0);
+        List { random, lender, image, program, snapshot, fuel, is_fast, is_stuck: false, is_tight: false }
     }
 
     /// The call with what it is lent.
     fn step(&mut self, call: Call) -> Step {
         let charges = matches!(call, Call::Run { .. } | Call::Answer { .. });
         let fuel = self.lender.fuel(&mut self.random, &self.fuel, charges);
-        Step {
-            image: self.lender.image(&mut self.random, &self.image, &call),
-            loans: self.lender.loans(&mut self.random, &self.snapshot),
-            page: self.lender.page(&mut self.random),
-            fuel,
-            call,
-        }
+        let image = self.lender.image(&mut self.random, &self.image, &call);
+        let loans = match call {
+            Call::Start { .. } | Call::Run { .. } | Call::Answer { .. } if self.is_tight => self.tight_loans(&call),
+            _ if self.is_tight => Loans::default(),
+            _ => self.lender.loans(&mut self.random, &self.snapshot),
+        };
+        Step { image, loans, page: self.lender.page(&mut self.random), fuel, call }
     }
 
     fn learn(&mut self, step: &Step, after: After) {
@@ -127,6 +147,8 @@ impl List {
         } else if self.is_host_unset() && self.random.chance(2, 3) {
             let index = 1 + self.random.below(HOST.len());
             self.set_host(index)
+        } else if self.snapshot.wait && self.is_tight && self.random.chance(3, 4) {
+            self.tight_answer()
         } else if self.snapshot.wait {
             self.answer()
         } else if has_result && self.random.chance(5, 6) || self.is_stuck && self.random.chance(1, 2) {

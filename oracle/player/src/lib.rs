@@ -2,6 +2,7 @@
 
 pub mod assemble;
 pub mod call;
+pub mod call_rows;
 pub mod case;
 pub mod cell;
 pub mod check;
@@ -12,6 +13,7 @@ pub mod driver;
 pub mod form;
 pub mod fuel_rows;
 pub mod generate;
+pub mod hold;
 pub mod image;
 pub mod image_rows;
 pub mod ints_rows;
@@ -21,6 +23,7 @@ pub mod observe;
 pub mod opcode;
 pub mod plain;
 pub mod random;
+pub mod record;
 pub mod rows;
 mod run;
 mod same;

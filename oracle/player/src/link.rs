@@ -53,7 +53,12 @@ impl Linked {
     }
 
     pub fn outermost(&self) -> Rc<Code<RcStr>> {
-        Rc::clone(&self.codes[0])
+        self.code(0)
+    }
+
+    /// The code of that number.
+    pub fn code(&self, number: u32) -> Rc<Code<RcStr>> {
+        Rc::clone(&self.codes[number as usize])
     }
 
     pub fn number_of(&self, code: &Rc<Code<RcStr>>) -> u32 {

@@ -9,9 +9,10 @@ use std::{
 
 use player::{
     assemble::{assemble, disassemble},
-    case,
+    call_rows, case,
     driver::Driver,
-    fuel_rows, image, image_rows, ints_rows,
+    fuel_rows, generate, image, image_rows, ints_rows,
+    record::record,
     rows::Rows,
     soak::Soak,
     text,
@@ -24,6 +25,8 @@ const USAGE: &str = "usage: player cases FILES..
        player fuel questions|answers > FILE
        player ints questions|answers > FILE
        player images questions|answers > FILE
+       player calls questions|answers > FILE
+       player record --from SEED --lists N > FILE
        player rows FILES.. > FILE
        player rows --from SEED --lists N > FILE
        player assemble < TEXT > IMAGE
@@ -46,6 +49,9 @@ fn main() -> ExitCode {
         ["images", options @ ..] => Options::parse(options).and_then(|options| images(&options)),
         ["fuel", "questions"] => write(fuel_replayed(fuel_rows::Question::bytes)),
         ["fuel", "answers"] => write(fuel_replayed(fuel_rows::Question::answer)),
+        ["calls", "questions"] => write(call_rows::rows().questions),
+        ["calls", "answers"] => write(call_rows::rows().answers),
+        ["record", options @ ..] => Options::parse(options).and_then(|options| write(recorded(&options))),
         ["rows", options @ ..] if options.first().is_some_and(|first| first.starts_with("--")) => {
             Options::parse(options).and_then(|options| random_rows(&options))
         }
@@ -170,6 +176,22 @@ fn ints_replayed(bytes: fn(&ints_rows::Question) -> Vec<u8>) -> Vec<u8> {
 /// What `images_replay` is asked, or what the reader here answers to it.
 fn images_replayed(bytes: fn(&[u8]) -> Vec<u8>) -> Vec<u8> {
     image_rows::images().iter().flat_map(|image| bytes(image)).collect()
+}
+
+/// Random lists, two for each seed, as a program in C reads them; the first call of a list has a bit that says so.
+fn recorded(options: &Options) -> Vec<u8> {
+    let mut bytes = Vec::new();
+    for seed in options.seeds() {
+        for of in [generate::list, generate::tight_list] {
+            let mut is_first = true;
+            of(seed, &mut Driver::new(), &mut |step, after| {
+                let at = bytes.len();
+                bytes.extend(record(step, after));
+                bytes[at + 4] = u8::from(std::mem::take(&mut is_first));
+            });
+        }
+    }
+    bytes
 }
 
 /// Random lists as rows of antt, and what they hold.

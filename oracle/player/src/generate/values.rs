@@ -156,7 +156,7 @@ impl List {
     }
 
     /// A value that names an object of the store, preferably a late one.
-    fn object_of(&mut self, wanted: fn(&Object) -> bool) -> Cell {
+    pub(super) fn object_of(&mut self, wanted: fn(&Object) -> bool) -> Cell {
         let found: Vec<Cell> = self
             .objects()
             .filter(|(_, object)| wanted(object))
@@ -186,7 +186,7 @@ impl List {
     }
 
     /// Values that name constants of the program.
-    fn constants(&self, wanted: fn(&Constant) -> bool) -> Vec<Cell> {
+    pub(super) fn constants(&self, wanted: fn(&Constant) -> bool) -> Vec<Cell> {
         let codes = (0..).zip(&self.program.codes);
         let all =
             codes.flat_map(|(code, of)| (0..).zip(&of.constants).map(move |(index, constant)| (code, index, constant)));

@@ -1,0 +1,35 @@
+-- `lend`: each part that is lent has the length it is asked for. Assumes nothing.
+use mathlib.Core.Path.{sym}
+use lib.Seq.{length-take-le}
+use borrow.Author.Needs.{needs}
+use Rattle.calls_replay.proofs.lend.Statement.{statement}
+use Rattle.calls_replay.proofs.lend.Tie as tie
+
+pub lend-spec : {M : Type 1} → statement M
+lend-spec =
+    tie.close
+    (tie.spec
+    (λ c κs. search needs)
+    (λ c. search needs)
+    (λ c κs. search needs)
+    (λ c. search needs)
+    (λ c κs. search needs)
+    (λ c. search needs)
+    (λ c κs. search needs)
+    (λ c. search needs)
+    (λ c κs. search needs)
+    (λ c. search needs)
+    (λ c. search needs)
+    (λ c. sym (length-take-le _ _ (search needs)))
+    (λ c. sym (length-take-le _ _ (search needs)))
+    (λ c. sym (length-take-le _ _ (search needs)))
+    (λ c. sym (length-take-le _ _ (search needs)))
+    (λ c. search needs)
+    (λ c. sym (length-take-le _ _ (search needs)))
+    (λ c κs. search needs)
+    (λ c κs. search needs)
+    (λ c. search needs)
+    (λ c. search needs)
+    (λ c. search needs)
+    (λ c. search needs)
+    (λ c. search needs))
