@@ -9,7 +9,7 @@ use plan::Plan;
 use plan::Start;
 
 // A new frame on top, with the parsed arguments on its stack.
-fn start_frame(
+pub fn start_frame(
     live: &mut [u8],
     store: &mut [u8],
     starts: &mut [u32],

@@ -1,13 +1,18 @@
 // A plan is judged on what it would leave, and only then carried out: over the running frame, or once it is gone; and an opcode's own error is thrown.
 ghost use mathlib.Core.Path.{_≡_};
+ghost use mathlib.Core.List.{[]};
 ghost use Prim.Native.Nat.{_≤_, _<_};
 ghost use Rattle.cells.specs.Cells.{cells};
 ghost use Rattle.scan.specs.Tables.{programIn};
+ghost use Rattle.plan.specs.declared.Plan.the-variants.{Starts, Receives};
 ghost use Rattle.acts.specs.Acted.{Judgeable, Judges, Eases, Standing, standingCounts, Overable, ActsOver, Belowable, ActsBelow, leftOf, Failable, Fails};
+use cells::Cell;
 use moves::Running;
 use plan::Counts;
 use plan::Error;
+use plan::Params;
 use plan::Plan;
+use plan::Start;
 
 // Refused, or what the machine has then: the step is done, or its own error is thrown.
 pub enum Acted {
@@ -130,6 +135,57 @@ pub fn below(
         }
         Acted::Failed(after) => Acted::Failed(after),
     }
+}
+
+// A new frame over the running frame g, of which `left` is left: what `over` does with the plan `Starts`. Calls are frequent, so that theirs goes through no plan.
+pub fn start(
+    f: Start,
+    p: Params,
+    args: &[u8],
+    state: &[u8],
+    live: &mut [u8],
+    store: &mut [u8],
+    starts: &mut [u32],
+    c: Counts,
+    g: Running,
+    left: Running,
+) -> Acted
+    requires { ⌜ Overable (Starts f p) (cells (now args)) c g left (now state) (now live) (now store) (now starts) ⌝ }
+    ensures { λ r. ⌜ ActsOver (Starts f p) (cells (now (args .entry))) c g left r (now (state .entry)) (now (live .entry)) (now (store .entry)) (now (starts .entry)) (now (state .entry)) (now (live .exit)) (now (store .exit)) (now (starts .exit)) ⌝ }
+{
+    let after = counts::started(c, f.locals as usize, p, cells::room(args));
+    let code = counts::refusal(after, cells::room(live), cells::room(store));
+    if code != 0 {
+        moves::settle(live, g);
+        return Acted::Refused(code);
+    }
+    moves::settle(live, left);
+    actions::start_frame(live, store, starts, c, f, p, args);
+    Acted::Done(after)
+}
+
+// A value for the top frame of those that are left once the running frame g is gone: what `below` does with the plan `Receives`. Returns are frequent, so that theirs goes through no plan.
+pub fn receive(
+    v: Cell,
+    state: &[u8],
+    live: &mut [u8],
+    store: &[u8],
+    starts: &[u32],
+    c: Counts,
+    g: Running,
+) -> Acted
+    requires { ⌜ Belowable (Receives v) (cells []) c g (now state) (now live) (now store) (now starts) ⌝ }
+    ensures { λ r. ⌜ ActsBelow (Receives v) (cells []) c g r (now (state .entry)) (now (live .entry)) (now (store .entry)) (now (starts .entry)) (now (state .entry)) (now (live .exit)) (now (store .entry)) (now (starts .entry)) ⌝ }
+{
+    let after = counts::received(c, live, starts);
+    let code = counts::refusal(after, cells::room(live), cells::room(store));
+    if code != 0 {
+        moves::settle(live, g);
+        return Acted::Refused(code);
+    }
+    let top = c.frames - 1;
+    placing::receive(live, starts[top] as usize, v);
+    Acted::Done(after)
 }
 
 // The registers past the opcode, with so many values less.

@@ -18,7 +18,7 @@ use Rattle.image.specs.Program.{Code}
 use Rattle.image.specs.Layout.{codeAt}
 use Rattle.image.specs.Parts.{clash, first, second, length-tab}
 use Rattle.program.specs.Looks.{bodyAt}
-use Rattle.machine.specs.Values.{Program, cell, closureAt, codeParams, typeOf, isEffect, callArguments, metaUnOperator}
+use Rattle.machine.specs.Values.{Program, cell, closureAt, codeOf, codeParams, typeOf, isEffect, callArguments, metaUnOperator}
 use Rattle.machine.specs.Machine.{Frame, host, effectCallback, Object, closure, list, continuation, returned, M, withFrames, withResult, withStore, Lookup, here, absent, objectAt, wrongCount, parse, parseArgs, throwError, Function, isClosure, isCallback, isEffectCallback, isContinuation, isNone, closureFunction, continuationFunction, functionOf, putBack, resume, newFrame, callClosure, callFunction, returnValue}
 use Rattle.machine.specs.Opcodes.{callable}
 use Rattle.machine.specs.Calls.{isClosureAt, isContinuationAt, isValue, isFunction}
@@ -34,9 +34,12 @@ use Rattle.plan.specs.Searches.{Lies}
 use Rattle.plan.specs.declared.Counts.{Counts}
 use Rattle.plan.specs.declared.Params.{Params}
 use Rattle.plan.specs.declared.Error.{Error}
+use Rattle.plan.specs.declared.Start.{Start}
 use Rattle.plan.specs.declared.Plan.{Plan}
 use Rattle.plan.specs.declared.Plan.the-variants.{Starts, Resumes, Receives, Returns}
-use Rattle.calls.specs.Called.{checks, callbackPlan, Callable, ThrowsError, CallsFunction, ReturnsValue}
+use Rattle.calls.specs.declared.Beginning.{Beginning}
+use Rattle.calls.specs.declared.Beginning.the-variants as beginning
+use Rattle.calls.specs.Called.{checks, callbackFrame, codeNamed, Callable, ThrowsError, CallsFunction, BeginsNone, BeginsCall, ReturnsValue}
 use Rattle.calls.specs.Performing.{checks-args, wrong-is, args-enough}
 
 -- ---- What a value is
@@ -219,97 +222,133 @@ calls-by {P} {args = args} {r = r} to same does = record {
 }
 
 -- ---- Frames of a callback of the host and of an effect
-module _ {P : Program} {frames : ℕ} {f : Cell} {args L S : List Cell} {starts : List ℕ} {r : Plan} where
-  pub call-effect : (f .tag ≡ 8) ⊎ (f .tag ≡ 24) → r ≡ callbackPlan 66 f → CallsFunction P frames f args L S starts r
+module _ (P : Program) (frames : ℕ) (f : Cell) (n : ℕ) (L S : List Cell) (starts : List ℕ) {r : Beginning} where
+  pub begins-effect : (f .tag ≡ 8) ⊎ (f .tag ≡ 24) → r ≡ callbackFrame 66 f → BeginsCall P frames f n L S starts r
   unfolding callFunction parse written
-  call-effect e q =
+  begins-effect e q = rw q λ args l.
       calls-by (λ s m. withFrames (effectCallback f (reverse args) [] ∷ m .frames) m)
       (λ m c h w. ap (λ (g : Function). callFunction P g f args m) (function-effect (m .store) f e))
-      (λ m l u w. rw q (record { frame = effectCallback f (reverse args) []; is = refl; enough = λ z. absurd (clash z); after = refl }))
+      (λ m l u w. record { frame = effectCallback f (reverse args) []; is = refl; enough = λ z. absurd (clash z); after = refl })
 
-  pub call-host : f .tag ≡ 39 → r ≡ callbackPlan 65 f → CallsFunction P frames f args L S starts r
+  pub begins-host : f .tag ≡ 39 → r ≡ callbackFrame 65 f → BeginsCall P frames f n L S starts r
   unfolding callFunction parse written
-  call-host e q =
+  begins-host e q = rw q λ args l.
       calls-by (λ s m. withFrames (host (f .number) (f .payload) (reverse args) [] ∷ m .frames) m)
       (λ m c h w. ap (λ (g : Function). callFunction P g f args m) (function-callback (m .store) f e))
-      (λ m l u w. rw q (record {
+      (λ m l u w. record {
         frame = host (f .number) (f .payload) (reverse args) [];
         is = λ i. newWritten 65 (record { tag = sym e i; number = f .number; payload = f .payload }) 0 args;
         enough = λ z. absurd (clash z);
         after = refl;
-      }))
-
-  -- a value that is no function
-  pub call-none : {x : Error} {k : ℕ} → ((f .tag ≡ 8) ⊎ (f .tag ≡ 24) → ⊥) → (f .tag ≡ 39 → ⊥) → (f .tag ≡ 7 → ⊥) → (f .tag ≡ 23 → ⊥) → k ≡ typeOf f → x ≡ errorOf (metaUnOperator 0 k)
-      → ThrowsError P frames 1 x L starts r → CallsFunction P frames f args L S starts r
-  unfolding callFunction
-  call-none a b c d t q w =
-      calls-by (λ s m. throwError 1 P (metaUnOperator 0 (typeOf f)) m)
-      (λ m _ h v. ap (λ (g : Function). callFunction P g f args m) (function-none (m .store) f P v c (λ e. a (inl e)) d (λ e. a (inr e)) b))
-      (λ m l u v. w .carries m args (metaUnOperator 0 (typeOf f)) l u (q ∙ ap (λ (n : ℕ). errorOf (metaUnOperator 0 n)) t))
+      })
 
 -- ---- A closure
+module _ {P : Program} (f : Cell) {L S : List Cell} {starts : List ℕ} where
+  -- the closure of any machine held has the code that its first cell names
+  closure-code : {m : M} {c : Counts} → Held P m c L S starts → (w : Closed (m .store) f) → codeNamed S f ≡ w .code
+  unfolding objectCells
+  closure-code h w =
+      let t = object-there (h .store) (w .there) in
+      ap (λ (l : List Cell). getD l (f .number) null .number) (t .is)
+      ∙ ap (λ (x : Cell). x .number) (getD-at (t .pre) (cell 128 (w .code) (length (w .upvalues))) (w .upvalues ++ t .post) null (f .number) (t .at))
+
+  closure-is : f .tag ≡ 7 → (args : List Cell) (m : M) (c : Counts) → Held P m c L S starts → isValue P (m .store) f ≡ true
+      → callFunction P (functionOf (m .store) f) f args m ≡ callClosure P (f .number) (codeOf P (codeNamed S f)) args m
+  unfolding callFunction
+  closure-is e args m c h v =
+      let w = value-closed P (m .store) f v e in
+      ap (λ (g : Function). callFunction P g f args m) (function-closure (m .store) f e w) ∙ ap (λ (k : ℕ). callClosure P (f .number) (codeOf P k) args m) (sym (closure-code h w))
+
+-- a machine with a new frame of the code
+abbrev framed : Cell → List Cell → Code → M → M
+framed f args c m = let a = parseArgs (codeParams c) args (m .store) in withStore (newFrame (f .number) c (a .args) ∷ m .frames) (a .store) m
+
+closure-by : (P : Program) (f : Cell) (c : Code) (args : List Cell) (m : M) {n : ℕ} {b : Bool} → length args ≡ n → checks (paramsOf (codeParams c)) n ≡ b
+    → callClosure P (f .number) c args m ≡ if? b (framed f args c m) (throwError 1 P (wrongCount (codeParams c) args) m)
+unfolding callClosure
+closure-by P f c args m l h = ap (λ (b : Bool). if? b (framed f args c m) (throwError 1 P (wrongCount (codeParams c) args) m)) (checks-args (codeParams c) args l refl ∙ h)
+
+-- the parameters are read by the tables
+pub closure-read : (image rows : List ℕ) (S : List Cell) (f : Cell) {code count mark : ℕ} → code ≡ codeNamed S f → count ≡ bodyAt image rows code .params → mark ≡ bodyAt image rows code .variadic
+    → _≡_ {A = Params} (record { count = count; variadic = eqb mark 1 }) (paramsOf (codeParams (bodyAt image rows (codeNamed S f))))
+closure-read image rows S f k p v = (λ i. record { count = p i; variadic = eqb (v i) 1 }) ∙ ap (λ (c : ℕ). paramsOf (codeParams (bodyAt image rows c))) k
+
 module _ (image rows constants inner : List ℕ) (codes : ℕ) where
   abbrev P : Program
   P = programIn image rows constants inner codes
 
-  abbrev C : ℕ → Code
-  C code = codeAt image rows constants inner code
+  module _ {frames : ℕ} {f : Cell} {L S : List Cell} {starts : List ℕ} (e : f .tag ≡ 7) (h : Callable P f frames L S starts) where
+    -- the program's code is that of the tables
+    closure-known : codeOf P (codeNamed S f) ≡ codeAt image rows constants inner (codeNamed S f)
+    closure-known =
+        let w = value-closed P (h .machine .store) f (h .value) e in
+        let k : w .code < codes = rw length-tab at (object-at P [] (h .machine .store) (f .number) (closure (w .code) (w .upvalues)) (h .held .objects) (w .there) .0) in
+        code-in image rows constants inner codes (codeNamed S f) (rw (sym (closure-code f (h .held) w)) at k)
 
-  abbrev marked : ℕ → ℕ → Params
-  marked count mark = record { count = count; variadic = eqb mark 1 }
+    module _ {p : Params} (is : p ≡ paramsOf (codeParams (bodyAt image rows (codeNamed S f)))) where
+      params-are : p ≡ paramsOf (codeParams (codeOf P (codeNamed S f)))
+      params-are = is ∙ ap (λ (c : Code). paramsOf (codeParams c)) (sym closure-known)
 
-  -- a machine with a new frame of the code
-  abbrev framed : Cell → List Cell → Code → M → M
-  framed f args c m = let a = parseArgs (codeParams c) args (m .store) in withStore (newFrame (f .number) c (a .args) ∷ m .frames) (a .store) m
+      module _ (n : ℕ) {t : Bool} (tested : t ≡ checks p n) where
+        checks-are : checks (paramsOf (codeParams (codeOf P (codeNamed S f)))) n ≡ t
+        checks-are = ap (λ (q : Params). checks q n) (sym params-are) ∙ sym tested
 
-  module _ (frames : ℕ) (f : Cell) (args L S : List Cell) (starts : List ℕ) (code : ℕ) (e : f .tag ≡ 7) (at : code ≡ getD S (f .number) null .number) where
-    -- the closure of any machine held has the code that its first cell names
-    closure-is : (m : M) (c : Counts) → Held P m c L S starts → isValue P (m .store) f ≡ true → callFunction P (functionOf (m .store) f) f args m ≡ callClosure P (f .number) (C code) args m
-    unfolding callFunction objectCells
-    closure-is m c h v =
-        let w = value-closed P (m .store) f v e in
-        let t = object-there (h .store) (w .there) in
-        let k : code ≡ w .code =
-        at ∙ ap (λ (l : List Cell). getD l (f .number) null .number) (t .is)
-        ∙ ap (λ (x : Cell). x .number) (getD-at (t .pre) (cell 128 (w .code) (length (w .upvalues))) (w .upvalues ++ t .post) null (f .number) (t .at)) in
-        let known : w .code < codes = rw length-tab at (object-at P [] (m .store) (f .number) (closure (w .code) (w .upvalues)) (h .objects) (w .there) .0) in
-        ap (λ (g : Function). callFunction P g f args m) (function-closure (m .store) f e w)
-        ∙ ap (λ (x : Code). callClosure P (f .number) x args m) (code-in image rows constants inner codes (w .code) known ∙ ap (codeAt image rows constants inner) (sym k))
+        pub closure-none : not t ≡ true → BeginsNone P f n S
+        closure-none off = record {
+          no-effect = ⊎-elim (λ z. omega arith) (λ z. omega arith);
+          no-callback = λ z. omega arith;
+          wrong = λ z. checks-are ∙ not-true t off;
+        }
 
-    module _ (n count mark : ℕ) (l : length args ≡ n) (params : count ≡ bodyAt image rows code .params) (variadic : mark ≡ bodyAt image rows code .variadic) where
-      params-are : marked count mark ≡ paramsOf (codeParams (C code))
-      params-are = λ i. record { count = params i; variadic = eqb (variadic i) 1 }
-
-      closure-by : (m : M) {b : Bool} → checks (marked count mark) n ≡ b
-          → callClosure P (f .number) (C code) args m ≡ if? b (framed f args (C code) m) (throwError 1 P (wrongCount (codeParams (C code)) args) m)
-      unfolding callClosure
-      closure-by m h =
-          ap (λ (b : Bool). if? b (framed f args (C code) m) (throwError 1 P (wrongCount (codeParams (C code)) args) m)) (checks-args (codeParams (C code)) args l params-are ∙ h)
-
-      module _ {t : Bool} (tested : t ≡ checks (marked count mark) n) where
-        pub closure-wrong : {x : Error} {r : Plan} → not t ≡ true → x ≡ errorOf (callArguments count (eqb mark 1) n) → ThrowsError P frames 1 x L starts r → CallsFunction P frames f args L S starts r
-        closure-wrong {r = r} off q w =
-            calls-by (λ s m. callClosure P (f .number) (C code) args m) closure-is
-            (λ m k u v. subst (Carries P r args m) (sym (closure-by m (sym tested ∙ not-true t off)))
-            (w .carries m args (wrongCount (codeParams (C code)) args) k u (wrong-is (codeParams (C code)) args l params-are q)))
-
-        pub closure-starts : {locals : ℕ} → not t ≡ false → locals ≡ bodyAt image rows code .locals
-            → CallsFunction P frames f args L S starts (Starts (record { kind = 64; subject = f; locals = locals }) (marked count mark))
+        pub closure-starts : {code locals : ℕ} → not t ≡ false → code ≡ codeNamed S f → locals ≡ bodyAt image rows code .locals → (args : List Cell) → length args ≡ n
+            → CallsFunction P frames f args L S starts (Starts (record { kind = 64; subject = f; locals = locals }) p)
         unfolding written
-        closure-starts {locals} on q =
-            let fits : checks (marked count mark) n ≡ true = sym tested ∙ not-false t on in
-            calls-by (λ s m. callClosure P (f .number) (C code) args m) closure-is
-            (λ m k u v.
+        closure-starts {locals = locals} on k q args l =
+            let c = codeOf P (codeNamed S f) in
+            let fits : checks (paramsOf (codeParams c)) n ≡ true = checks-are ∙ not-false t on in
+            let same : locals ≡ c .locals = q ∙ ap (λ (x : ℕ). bodyAt image rows x .locals) k ∙ ap (λ (x : Code). x .locals) (sym closure-known) in
+            calls-by (λ s m. callClosure P (f .number) c args m) (closure-is f e args)
+            (λ m j u v.
             let w = value-closed P (m .store) f v e in
-            subst (Carries P (Starts (record { kind = 64; subject = f; locals = locals }) (marked count mark)) args m) (sym (closure-by m fits))
-            (subst (λ (r : Plan). Carries P r args m (framed f args (C code) m)) (λ i. Starts (record { kind = 64; subject = sym (w .is) i; locals = sym q i }) (sym params-are i))
+            subst (Carries P (Starts (record { kind = 64; subject = f; locals = locals }) p) args m) (sym (closure-by P f c args m l fits))
+            (subst (λ (r : Plan). Carries P r args m (framed f args c m)) (λ i. Starts (record { kind = 64; subject = sym (w .is) i; locals = sym same i }) (sym params-are i))
             (record {
-              frame = newFrame (f .number) (C code) (parseArgs (codeParams (C code)) args (m .store) .args);
+              frame = newFrame (f .number) c (parseArgs (codeParams c) args (m .store) .args);
               is = refl;
-              enough = args-enough (codeParams (C code)) args l params-are fits;
+              enough = args-enough (codeParams c) args l refl fits;
               after = refl;
             })))
+
+      -- the count does not fit
+      pub closure-wrong : (args : List ℕ) {n : ℕ} {x : Error} {r : Plan} → BeginsNone P f (room args) S → n ≡ room args → x ≡ errorOf (callArguments (p .count) (p .variadic) n)
+          → ThrowsError P frames 1 x L starts r → CallsFunction P frames f (cells args) L S starts r
+      closure-wrong args {r = r} none l q w =
+          let c = codeOf P (codeNamed S f) in
+          calls-by (λ s m. callClosure P (f .number) c (cells args) m) (closure-is f e (cells args))
+          (λ m k u v. subst (Carries P r (cells args) m) (sym (closure-by P f c (cells args) m (length-cells args) (none .wrong e)))
+          (w .carries m (cells args) (wrongCount (codeParams c) (cells args)) k u (wrong-is (codeParams c) (cells args) (length-cells args ∙ sym l) params-are q)))
+
+-- ---- Neither
+module _ {P : Program} {f : Cell} {S : List Cell} where
+  pub begins-none : {n : ℕ} → ((f .tag ≡ 8) ⊎ (f .tag ≡ 24) → ⊥) → (f .tag ≡ 39 → ⊥) → (f .tag ≡ 7 → ⊥) → BeginsNone P f n S
+  begins-none a b c = record { no-effect = a; no-callback = b; wrong = λ e. absurd (c e) }
+
+  -- a value that is no function
+  pub call-none : {frames : ℕ} {args L : List Cell} {starts : List ℕ} {r : Plan} {x : Error} {k n : ℕ} → BeginsNone P f n S → (f .tag ≡ 7 → ⊥) → (f .tag ≡ 23 → ⊥) → k ≡ typeOf f → x ≡ errorOf (metaUnOperator 0 k)
+      → ThrowsError P frames 1 x L starts r → CallsFunction P frames f args L S starts r
+  unfolding callFunction
+  call-none {args} h c d t q w =
+      calls-by (λ s m. throwError 1 P (metaUnOperator 0 (typeOf f)) m)
+      (λ m _ o v. ap (λ (g : Function). callFunction P g f args m) (function-none (m .store) f P v c (λ e. h .no-effect (inl e)) d (λ e. h .no-effect (inr e)) (h .no-callback)))
+      (λ m l u v. w .carries m args (metaUnOperator 0 (typeOf f)) l u (q ∙ ap (λ (n : ℕ). errorOf (metaUnOperator 0 n)) t))
+
+-- ---- What a call does with what it begins
+module _ (P : Program) (frames : ℕ) (f : Cell) (args : List ℕ) (L S : List Cell) (starts : List ℕ) {n : ℕ} (l : n ≡ room args) {o : Beginning} (h : BeginsCall P frames f n L S starts o) where
+  pub call-begins : {k : Start} {p : Params} → o ≡ beginning.Frame k p → CallsFunction P frames f (cells args) L S starts (Starts k p)
+  call-begins q = subst (BeginsCall P frames f n L S starts) q h (cells args) (length-cells args ∙ sym l)
+
+  pub call-other : o ≡ beginning.NoFrame → BeginsNone P f (room args) S
+  call-other q = subst (λ (i : ℕ). BeginsNone P f i S) l (subst (BeginsCall P frames f n L S starts) q h)
 
 -- ---- A continuation
 continuation-is : (P : Program) (f : Cell) → f .tag ≡ 23 → (args : List Cell) (m : M) (w : Continued (m .store) f) → callFunction P (functionOf (m .store) f) f args m ≡ resume P (w .frames) args m

@@ -2,17 +2,18 @@
 ghost use mathlib.Core.Path.{_≡_};
 ghost use mathlib.Core.List.{List};
 ghost use mathlib.Core.Bool.{true};
-ghost use lib.ListN.{length};
-ghost use Rattle.cells.specs.Cells.{cells};
+ghost use Prim.Native.Nat.{_<_};
+ghost use Rattle.cells.specs.Cells.{room, cells};
 ghost use Rattle.cells.specs.declared.Cell.{Cell};
-ghost use Rattle.machine.specs.Values.{Program, callArguments};
+ghost use Rattle.program.specs.Looks.{bodyAt};
+ghost use Rattle.machine.specs.Values.{Program, codeParams, callArguments};
 ghost use Rattle.machine.specs.Machine.{Object, functionOf};
 ghost use Rattle.machine.specs.Opcodes.{callable};
 ghost use Rattle.machine.specs.Calls.{isValue, isFunction};
 ghost use Rattle.scan.specs.Tables.{programIn};
-ghost use Rattle.plan.specs.Plans.{errorOf};
+ghost use Rattle.plan.specs.Plans.{paramsOf, errorOf};
 ghost use Rattle.plan.specs.Searches.{Lies};
-ghost use Rattle.calls.specs.Called.{checks, Handling, Lacking, callbackPlan, Callable, Performs, ThrowsError, CallsFunction, ReturnsValue};
+ghost use Rattle.calls.specs.Called.{checks, Handling, Lacking, callbackFrame, codeNamed, Callable, Performs, ThrowsError, CallsFunction, BeginsNone, BeginsCall, ReturnsValue};
 use cells::Cell;
 use plan::Error;
 use plan::Found;
@@ -24,6 +25,12 @@ use plan::Start;
 pub enum Cause {
     Performed,
     Thrown(Error),
+}
+
+// The frame that a call begins, or that it begins none.
+pub enum Beginning {
+    Frame(Start, Params),
+    NoFrame,
 }
 
 // `check_args`.
@@ -183,10 +190,10 @@ pub fn is_function(f: Cell) -> bool
 }
 
 // A frame of a callback of the host or of an effect: all arguments as they are.
-fn callback(kind: u32, f: Cell) -> Plan
-    ensures { λ r. ⌜ r ≡ callbackPlan kind f ⌝ }
+fn callback(kind: u32, f: Cell) -> Beginning
+    ensures { λ r. ⌜ r ≡ callbackFrame kind f ⌝ }
 {
-    Plan::Starts(
+    Beginning::Frame(
         Start {
             kind,
             subject: f,
@@ -199,8 +206,20 @@ fn callback(kind: u32, f: Cell) -> Plan
     )
 }
 
+// The parameters of a closure.
+fn closure_params(image: &[u8], rows: &[u32], store: &[u8], f: Cell) -> Params
+    requires { ⌜ f .number < room (now store) ⌝ }
+    ensures { λ r. ⌜ r ≡ paramsOf (codeParams (bodyAt (now (image .entry)) (now (rows .entry)) (codeNamed (cells (now (store .entry))) f))) ⌝ }
+{
+    let code = cells::number(store, f.number as usize) as usize;
+    Params {
+        count: lookups::params(image, rows, code),
+        variadic: lookups::variadic(image, rows, code) == 1,
+    }
+}
+
 // A closure: a new frame of it, if the count fits.
-fn call_closure(
+fn closure_frame(
     image: &[u8],
     rows: &[u32],
     constants: &[u32],
@@ -212,31 +231,16 @@ fn call_closure(
     frames: usize,
     f: Cell,
     n: usize,
-) -> Plan
+) -> Beginning
     requires { ⌜ (f .tag ≡ 7) × Callable (programIn (now image) (now rows) (now constants) (now inner) codes) f frames (cells (now live)) (cells (now store)) (now starts) ⌝ }
-    ensures { λ r. ⌜ ((args : List Cell) → length args ≡ n → CallsFunction (programIn (now (image .entry)) (now (rows .entry)) (now (constants .entry)) (now (inner .entry)) codes) frames f args (cells (now (live .entry))) (cells (now (store .entry))) (now (starts .entry)) r) ⌝ }
+    ensures { λ r. ⌜ BeginsCall (programIn (now (image .entry)) (now (rows .entry)) (now (constants .entry)) (now (inner .entry)) codes) frames f n (cells (now (live .entry))) (cells (now (store .entry))) (now (starts .entry)) r ⌝ }
 {
-    let code = cells::number(store, f.number as usize) as usize;
-    let p = Params {
-        count: lookups::params(image, rows, code),
-        variadic: lookups::variadic(image, rows, code) == 1,
-    };
+    let p = closure_params(image, rows, store, f);
     if !check_args(p, n) {
-        let x = wrong_count(p, n);
-        return throw_error(
-            image,
-            rows,
-            constants,
-            inner,
-            codes,
-            live,
-            starts,
-            frames,
-            1,
-            x,
-        );
+        return Beginning::NoFrame;
     }
-    Plan::Starts(
+    let code = cells::number(store, f.number as usize) as usize;
+    Beginning::Frame(
         Start {
             kind: 64,
             subject: f,
@@ -244,6 +248,44 @@ fn call_closure(
         },
         p,
     )
+}
+
+// A closure that takes n arguments, a callback of the host and an effect begin a frame, and nothing else is done.
+pub fn frame_of(
+    image: &[u8],
+    rows: &[u32],
+    constants: &[u32],
+    inner: &[u32],
+    codes: usize,
+    live: &[u8],
+    store: &[u8],
+    starts: &[u32],
+    frames: usize,
+    f: Cell,
+    n: usize,
+) -> Beginning
+    requires { ⌜ Callable (programIn (now image) (now rows) (now constants) (now inner) codes) f frames (cells (now live)) (cells (now store)) (now starts) ⌝ }
+    ensures { λ r. ⌜ BeginsCall (programIn (now (image .entry)) (now (rows .entry)) (now (constants .entry)) (now (inner .entry)) codes) frames f n (cells (now (live .entry))) (cells (now (store .entry))) (now (starts .entry)) r ⌝ }
+{
+    let tag = f.tag;
+    match tag {
+        8 | 24 => callback(66, f),
+        39 => callback(65, f),
+        7 => closure_frame(
+            image,
+            rows,
+            constants,
+            inner,
+            codes,
+            live,
+            store,
+            starts,
+            frames,
+            f,
+            n,
+        ),
+        _ => Beginning::NoFrame,
+    }
 }
 
 // `resume`: a continuation takes one value.
@@ -285,6 +327,64 @@ fn resume(
     )
 }
 
+// A call that begins no frame: a resume, or a throw, since the count does not fit or the value is no function.
+fn no_frame(
+    image: &[u8],
+    rows: &[u32],
+    constants: &[u32],
+    inner: &[u32],
+    codes: usize,
+    live: &[u8],
+    store: &[u8],
+    starts: &[u32],
+    frames: usize,
+    f: Cell,
+    args: &[u8],
+) -> Plan
+    requires { ⌜ BeginsNone (programIn (now image) (now rows) (now constants) (now inner) codes) f (room (now args)) (cells (now store)) × Callable (programIn (now image) (now rows) (now constants) (now inner) codes) f frames (cells (now live)) (cells (now store)) (now starts) ⌝ }
+    ensures { λ r. ⌜ CallsFunction (programIn (now (image .entry)) (now (rows .entry)) (now (constants .entry)) (now (inner .entry)) codes) frames f (cells (now (args .entry))) (cells (now (live .entry))) (cells (now (store .entry))) (now (starts .entry)) r ⌝ }
+{
+    let tag = f.tag;
+    match tag {
+        7 => throw_error(
+            image,
+            rows,
+            constants,
+            inner,
+            codes,
+            live,
+            starts,
+            frames,
+            1,
+            wrong_count(closure_params(image, rows, store, f), cells::room(args)),
+        ),
+        23 => resume(
+            image,
+            rows,
+            constants,
+            inner,
+            codes,
+            live,
+            starts,
+            frames,
+            f,
+            args,
+        ),
+        _ => throw_error(
+            image,
+            rows,
+            constants,
+            inner,
+            codes,
+            live,
+            starts,
+            frames,
+            1,
+            values::meta_un_operator(0, values::type_of(f)),
+        ),
+    }
+}
+
 // `call_function`: a new frame, a resume, or a throw.
 pub fn call_function(
     image: &[u8],
@@ -302,53 +402,33 @@ pub fn call_function(
     requires { ⌜ Callable (programIn (now image) (now rows) (now constants) (now inner) codes) f frames (cells (now live)) (cells (now store)) (now starts) ⌝ }
     ensures { λ r. ⌜ CallsFunction (programIn (now (image .entry)) (now (rows .entry)) (now (constants .entry)) (now (inner .entry)) codes) frames f (cells (now (args .entry))) (cells (now (live .entry))) (cells (now (store .entry))) (now (starts .entry)) r ⌝ }
 {
-    let tag = f.tag;
-    match tag {
-        8 | 24 => callback(66, f),
-        39 => callback(65, f),
-        7 => {
-            let n = cells::room(args);
-            call_closure(
-                image,
-                rows,
-                constants,
-                inner,
-                codes,
-                live,
-                store,
-                starts,
-                frames,
-                f,
-                n,
-            )
-        }
-        23 => resume(
+    match frame_of(
+        image,
+        rows,
+        constants,
+        inner,
+        codes,
+        live,
+        store,
+        starts,
+        frames,
+        f,
+        cells::room(args),
+    ) {
+        Beginning::Frame(k, p) => Plan::Starts(k, p),
+        Beginning::NoFrame => no_frame(
             image,
             rows,
             constants,
             inner,
             codes,
             live,
+            store,
             starts,
             frames,
             f,
             args,
         ),
-        _ => {
-            let x = values::meta_un_operator(0, values::type_of(f));
-            throw_error(
-                image,
-                rows,
-                constants,
-                inner,
-                codes,
-                live,
-                starts,
-                frames,
-                1,
-                x,
-            )
-        }
     }
 }
 

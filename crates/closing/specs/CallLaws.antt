@@ -178,6 +178,9 @@ module _ (keeps : Bool) {P : Program} {frames u : ℕ} {g : registers.Running} {
         pub call-lends : 16 * x ≡ length (take (16 * x) args₁)
         call-lends = sym (length-take-le (16 * x) args₁ call-lent)
 
+        pub call-given : x ≡ room (take (16 * x) args₁)
+        call-given = omega (arith, call-lends)
+
       module _ {h : registers.Running} (q : h ≡ leftOf g (x + 1)) where
         pub left-ends : endOf h < 18446744073709551616
         left-ends = omega (arith, ap (λ (r : registers.Running). endOf r) q, lt, call-ends)

@@ -4,6 +4,7 @@ ghost use Rattle.machine.specs.Values.{Program};
 ghost use Rattle.scan.specs.Tables.{programIn};
 ghost use Rattle.closing.specs.Closed.{closingNumber, Closable, Returnable, Closes, Callbackable, PerformsCallback};
 use acts::Acted;
+use calls::Beginning;
 use calls::Cause;
 use moves::Running;
 use plan::Counts;
@@ -56,6 +57,26 @@ fn call(
     }
     blocks::copy(args, 0, live, moves::end(g) - n, n);
     let given = &args[..16 * n];
+    let c = Counts {
+        frames,
+        live: moves::end(left),
+        store: used,
+    };
+    if let Beginning::Frame(k, p) = calls::frame_of(
+        image,
+        rows,
+        constants,
+        inner,
+        codes,
+        live,
+        store,
+        starts,
+        frames,
+        f,
+        n,
+    ) {
+        return acts::start(k, p, given, state, live, store, starts, c, g, left);
+    }
     let plan = calls::call_function(
         image,
         rows,
@@ -69,11 +90,6 @@ fn call(
         f,
         given,
     );
-    let c = Counts {
-        frames,
-        live: moves::end(left),
-        store: used,
-    };
     acts::over(plan, given, state, live, store, starts, c, g, left)
 }
 
@@ -163,14 +179,26 @@ fn return_top(
         return Acted::Refused(12);
     }
     let under = frames - 1;
-    let plan = calls::return_value(under, moves::top(live, g, 0));
-    let none = [0u8; 16];
+    let v = moves::top(live, g, 0);
     let c = Counts {
         frames: under,
         live: g.base,
         store: used,
     };
-    acts::below(plan, &none[..0], state, live, store, starts, c, g)
+    if under != 0 {
+        return acts::receive(v, state, live, store, starts, c, g);
+    }
+    let none = [0u8; 16];
+    acts::below(
+        calls::return_value(under, v),
+        &none[..0],
+        state,
+        live,
+        store,
+        starts,
+        c,
+        g,
+    )
 }
 
 // An opcode that closes its slice.

@@ -36,7 +36,7 @@ fn listed(p: Params, n: usize) -> usize
 }
 
 // A new frame.
-fn started(c: Counts, locals: usize, p: Params, n: usize) -> Counts
+pub fn started(c: Counts, locals: usize, p: Params, n: usize) -> Counts
     requires { ⌜ (c .frames < 4294967296) × (c .live < 4294967296) × (c .store < 4294967296) × (locals < 4294967296) × (n < 4294967296) × Enough p n ⌝ }
     ensures { λ r. ⌜ r ≡ startedCounts c locals p n ⌝ }
 {
@@ -78,7 +78,7 @@ fn handled(c: Counts, live: &[u8], starts: &[u32], i: usize, p: Params, n: usize
 }
 
 // The top frame loses its handlers and gets a value.
-fn received(c: Counts, live: &[u8], starts: &[u32]) -> Counts
+pub fn received(c: Counts, live: &[u8], starts: &[u32]) -> Counts
     requires { ⌜ Receivable c (cells (now live)) (now starts) ⌝ }
     ensures { λ r. ⌜ r ≡ receivedCounts c (cells (now (live .entry))) (now (starts .entry)) ⌝ }
 {

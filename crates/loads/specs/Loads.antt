@@ -160,10 +160,16 @@ module _ {g : registers.Running} {x : ℕ} {old : List ℕ} where
     }
 
 -- ---- 3 `LoadLocal`, 7 `StoreLocal`
+pub int-parts : (v : Cell) → v .tag ≡ 2 → _≡_ {A = Cell} (record { tag = 2; number = v .number; payload = v .payload }) v
+int-parts v e = λ j. record { tag = sym e j; number = v .number; payload = v .payload }
+
 module _ {g : registers.Running} {x : ℕ} {old : List ℕ} where
   pub local-loaded : {v : Cell} {n : Next} {new : List ℕ} → ((w : Written) (pre : List Cell) → Top w pre g (cells old) → v ≡ getD (w .locals) x null) → Pushes v g n old new → (P : Program) → Does P 3 x g n old new
   unfolding opcodeAction
   local-loaded h d P = pushing d (λ z m r S u i. ap (pushes r) (sym (h _ _ (i .runs))))
+
+  pub local-parts : {v u : Cell} {g′ : registers.Running} {new : List ℕ} → u ≡ v → ((w : Written) (pre : List Cell) → Top w pre g (cells old) → v ≡ getD (w .locals) x null) → Turns (pushed u) g old g′ new → (P : Program) → Does P 3 x g (Goes g′) old new
+  local-parts e h t = local-loaded (λ w pre o. e ∙ h w pre o) (push-goes t)
 
   pub store-stops : g .stack ≡ 0 → (P : Program) → Does P 7 x g (Stops 12) old old
   unfolding opcodeAction
@@ -180,6 +186,10 @@ module _ {g : registers.Running} {x : ℕ} {old : List ℕ} where
         (cells-len old new (t .len)) (rw q (pop-top (t .top _ _ (i .runs)) 1 (omega arith)));
     same = record { rest = t .rest; len = t .len };
   }
+
+  pub stored-parts : {v u : Cell} {g′ : registers.Running} {new : List ℕ} → u ≡ v → (g .stack ≡ 0 → ⊥) → ((w : Written) (pre : List Cell) → Top w pre g (cells old) → v ≡ getD (w .stack) 0 null)
+      → Turns (setLocal x u) g old g new → g′ ≡ withCounts (g .handlers) (g .stack - 1) g → (P : Program) → Does P 7 x g (Goes g′) old new
+  stored-parts e ne h t q = stored-local ne (λ w pre o. e ∙ h w pre o) t q
 
 -- ---- 4 `LoadGlobal`
 module _ {B : List Cell} {v : Cell} {name : ℕ} (h : (w : World) → length (w .machine .globals) ≡ 256 → B ≡ stateCells w → v ≡ getD (w .machine .globals) name null) where

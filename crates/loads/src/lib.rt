@@ -89,12 +89,29 @@ pub fn swap(live: &mut [u8], g: Running, x: u32) -> Next
     Next::Goes(g)
 }
 
+// An Int from its parts: the processor waits where a cell that was written by parts, as those of arithmetic are, is read whole a moment later, so that Ints go by parts.
+fn by_parts(v: Cell) -> Cell
+    requires { ⌜ v .tag ≡ 2 ⌝ }
+    ensures { λ r. ⌜ r ≡ v ⌝ }
+{
+    Cell {
+        tag: 2,
+        number: v.number,
+        payload: v.payload,
+    }
+}
+
 // 3 `LoadLocal`.
 pub fn load_local(live: &mut [u8], g: Running, x: u32) -> Next
     requires { ⌜ (endOf g ≤ room (now live)) × (x < g .locals) ⌝ }
     ensures { λ n. ⌜ ((P : Program) → Does P 3 x g n (now (live .entry)) (now (live .exit))) ⌝ }
 {
     let v = moves::local(live, g, x as usize);
+    if v.tag == 2 {
+        if moves::end(g) < cells::room(live) {
+            return Next::Goes(moves::push(live, g, by_parts(v)));
+        }
+    }
     push_value(live, g, v)
 }
 
@@ -144,6 +161,10 @@ pub fn store_local(live: &mut [u8], g: Running, x: u32) -> Next
         return Next::Stops(12);
     }
     let v = moves::top(live, g, 0);
+    if v.tag == 2 {
+        moves::set_local(live, g, x as usize, by_parts(v));
+        return Next::Goes(drop_values(g, 1));
+    }
     moves::set_local(live, g, x as usize, v);
     Next::Goes(drop_values(g, 1))
 }

@@ -34,14 +34,6 @@ pub fn locals(image: &[u8], rows: &[u32], k: usize) -> u16
     program::le16(image, program::entry(rows, 10 * k) + 4)
 }
 
-// Its stack size.
-pub fn stack_size(image: &[u8], rows: &[u32], k: usize) -> u16
-    requires { ⌜ k < 4294967296 ⌝ }
-    ensures { λ r. ⌜ r ≡ bodyAt (now (image .entry)) (now (rows .entry)) k .stackSize ⌝ }
-{
-    program::le16(image, program::entry(rows, 10 * k) + 6)
-}
-
 // Opcode i of code k.
 pub fn opcode(image: &[u8], rows: &[u32], k: usize, i: usize) -> Op
     requires { ⌜ (k < 4294967296) × (i < field (now rows) k 1) ⌝ }

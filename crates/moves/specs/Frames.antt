@@ -135,10 +135,6 @@ gets-by {rule} {v} {old} {mid} {new} {g} base step h t s =
       len = s .len ∙ t .len;
     }
 
-pub gives : {v : Cell} {base : ℕ} {old new : List ℕ} {g : Running} {n : ℕ} → g ≡ keptIn (cells old) base → Lands v g old n new → Gets (give v) base old n new
-gives {v} {base} {old} {new} {n = n} q s =
-    gets-by base (λ w. w) (give-written v) (record { top = λ w pre o. o; rest = refl; len = refl }) (subst (λ (k : Running). Lands v k old n new) q s)
-
 pub receives : {v : Cell} {base : ℕ} {old mid new : List ℕ} {g h : Running} {n : ℕ} → g ≡ keptIn (cells old) base → Turns clearHandlers g old h mid → Lands v h mid n new → Gets (receive v) base old n new
 receives {v} {base} {old} {mid} {h = h} q t s = gets-by base clearHandlers (receive-written v) (subst (λ (k : Running). Turns clearHandlers k old h mid) q t) s
 

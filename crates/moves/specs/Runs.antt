@@ -529,11 +529,6 @@ module _ {g : Running} {old new : List ℕ} {at : ℕ} where
   pub pushes : {v : Cell} {r : Running} → endOf g < room old → at ≡ endOf g → Writes old (set (cells old) at v) new → r ≡ withCounts (g .handlers) (g .stack + 1) g → Turns (pushed v) g old r new
   pushes {v} lt e u q = rw q (turns-by (rw e at u) (λ w pre o. push-top o v (rw length-cells lt)))
 
-  pub pushes-all : {r : Running} (from n : ℕ) → from + n ≤ room old → at ≡ endOf g → Writes old (paste (cells old) at (drop from (cells old)) n) new → r ≡ withCounts (g .handlers) (g .stack + n) g
-      → Turns (pushedAll (take n (drop from (cells old)))) g old r new
-  pushes-all from n le e u q =
-      rw q (turns-by (rw e at u) (λ w pre o. block-top o (drop from (cells old)) n (length-take-le n (drop from (cells old)) (simp (length-drop, length-cells) (omega arith)))))
-
   pub sets-top : {v : Cell} (i : ℕ) → i < g .stack → at ≡ endOf g → Writes old (set (cells old) (at - 1 - i) v) new → Turns (setTop i v) g old g new
   sets-top {v} i lt e u = turns-by (rw e at u) (λ w pre o. top-set o i v lt)
 

@@ -3,10 +3,10 @@
 ghost use mathlib.Core.Path.{_≡_};
 ghost use mathlib.Core.List.{List};
 ghost use Prim.Native.Nat.{_+_, _≤_, _<_};
-ghost use lib.ListN.{getD, take, drop};
+ghost use lib.ListN.{getD};
 ghost use Rattle.cells.specs.Cells.{null, room, cells, Sound};
 ghost use Rattle.memory.specs.Layout.{Written};
-ghost use Rattle.moves.specs.Runs.{Top, Turns, Settles, stackAt, endOf, withCounts, opened, pushed, pushedAll, setTop, setLocal, noHandler, addHandler, setHandler, clearHandlers};
+ghost use Rattle.moves.specs.Runs.{Top, Turns, Settles, stackAt, endOf, withCounts, opened, pushed, setTop, setLocal, noHandler, addHandler, setHandler, clearHandlers};
 ghost use Rattle.moves.specs.Frames.{keptIn};
 use cells::Cell;
 
@@ -79,15 +79,6 @@ pub fn push(live: &mut [u8], g: Running, v: Cell) -> Running
 {
     cells::put(live, end(g), v);
     with_counts(g, g.handlers, g.stack + 1)
-}
-
-// n cells go on its stack as they are: the arguments of a call or of an effect.
-pub fn push_values(live: &mut [u8], g: Running, from: usize, n: usize) -> Running
-    requires { ⌜ (endOf g + n ≤ room (now live)) × (from + n ≤ room (now live)) ⌝ }
-    ensures { λ r. ⌜ (r ≡ withCounts (g .handlers) (g .stack + n) g) × Turns (pushedAll (take n (drop from (cells (now (live .entry)))))) g (now (live .entry)) r (now (live .exit)) ⌝ }
-{
-    blocks::copy_within(live, end(g), from, n);
-    with_counts(g, g.handlers, g.stack + n)
 }
 
 // The i-th value from the top, which is 0.

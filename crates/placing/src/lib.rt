@@ -3,7 +3,7 @@ ghost use mathlib.Core.Path.{_≡_};
 ghost use Prim.Native.Nat.{_+_, _-_, _≤_, _<_};
 ghost use lib.ListN.{length, take, drop};
 ghost use Rattle.cells.specs.Cells.{room, cells};
-ghost use Rattle.machine.specs.Machine.{give, receive};
+ghost use Rattle.machine.specs.Machine.{receive};
 ghost use Rattle.memory.specs.View.{framesSize};
 ghost use Rattle.moves.specs.Runs.{endOf, withCounts};
 ghost use Rattle.moves.specs.Frames.{keptIn, Lands, Gets, newWritten, Starts};
@@ -20,15 +20,6 @@ fn land(live: &mut [u8], g: Running, v: Cell) -> usize
     let r = moves::push(live, g, v);
     moves::settle(live, r);
     moves::end(r)
-}
-
-// What a resume does to the last frame, which begins at `base`: where the frame ends then.
-pub fn give(live: &mut [u8], base: usize, v: Cell) -> usize
-    requires { ⌜ endOf (keptIn (cells (now live)) base) < room (now live) ⌝ }
-    ensures { λ r. ⌜ Gets (give v) base (now (live .entry)) r (now (live .exit)) ⌝ }
-{
-    let g = moves::kept(live, base);
-    land(live, g, v)
 }
 
 // What a return does to the frame that it returns to: where the frame ends then.

@@ -1,17 +1,18 @@
 -- The loop of a slice: its invariant, what the calls in it require, and one law for each way out.
-use mathlib.Core.Path.{_≡_, sym, ap, _∙_}
+use mathlib.Core.Path.{_≡_, refl, sym, ap, _∙_}
 use mathlib.Core.List.{List}
-use Prim.Native.Nat.{ℕ, _-_, _<_, _≤_}
+use Prim.Native.Nat.{ℕ, _+_, _-_, _*_, _<_, _≤_}
 use native.Mathlib.Omega.{arith}
 use lib.ListN.{length, getD}
 use Rattle.cells.specs.Cells.{cells}
 use Rattle.cells.specs.declared.Cell.{Cell}
 use Rattle.image.specs.Program.{Code, noOp}
 use Rattle.image.specs.Parts.{length-tab}
-use Rattle.image.specs.Layout.{field, codeAt}
+use Rattle.image.specs.Layout.{field, opcodeAt, codeAt}
 use Rattle.image.specs.Fine.{Accepted}
 use Rattle.image.specs.declared.Op.{Op}
-use Rattle.program.specs.Looks.{bodyAt}
+use Rattle.program.specs.Parts.{Entry}
+use Rattle.program.specs.Looks.{bodyAt, look-opcode}
 use Rattle.scan.specs.Tables.{programIn}
 use Rattle.scan.specs.Values.{code-in}
 use Rattle.machine.specs.Values.{Program, codeOf}
@@ -23,10 +24,13 @@ use Rattle.plan.specs.declared.Error.{Error}
 use Rattle.steps.specs.declared.After.{After}
 use Rattle.steps.specs.declared.After.the-variants as after
 use Rattle.steps.specs.declared.Closing.{Closing}
+use Rattle.steps.specs.declared.Quick.{Quick}
+use Rattle.steps.specs.declared.Quick.the-variants.{Goes, Jumps, Other}
+use Rattle.steps.specs.Quickly.{Quickly, goes-steps, jumps-steps, other-same}
 use Rattle.steps.specs.Stepped.{Given, ReadyWith, Stepped, Steps}
 use Rattle.steps.specs.SteppedLaws.{same-code, same-refl}
-use Rattle.slices.specs.Sliced.{pastOf, At, Sliceable, Reached, Ended, Slices}
-use Rattle.slices.specs.SlicedLaws.{sliceOf, pastFrame, at-given, reached-first, reached-end, reached-on, reached-jump, reached-spent}
+use Rattle.slices.specs.Sliced.{pastOf, At, Sliceable, Reached, Ended, Slices, Quickens}
+use Rattle.slices.specs.SlicedLaws.{sliceOf, pastFrame, at-given, reached-first, reached-end, reached-more, reached-on, reached-jump, reached-spent}
 use Rattle.slices.specs.declared.End.the-variants.{Paused, Spent, Refused, Throws, Closes}
 use Rattle.slices.specs.declared.Slice.{Slice}
 
@@ -59,6 +63,9 @@ module _ (image rows constants inner : List ℕ) (codes : ℕ) {z : Sizes} {m : 
 
   at-opcode : {o : Op} → o ≡ getD (bodyAt image rows code .opcodes) (g .place) noOp → o ≡ getD (x .frame .code .opcodes) (x .inside .place) noOp
   at-opcode e = e ∙ sym (ap (λ (c : Code). getD (c .opcodes) (g .place) noOp) at-code) ∙ ap (λ (p : ℕ). getD (x .frame .code .opcodes) p noOp) at-place
+
+pub code-low : {P : Program} {g : registers.Running} {handle code u : ℕ} {state live store : List ℕ} → Sliceable P g handle code u state live store → code < 4294967296
+code-low b = omega (arith, b .at .number, b .at .inside .known, b .accepted .few)
 
 -- of every machine that memory may hold at the beginning
 abbrev pub Whenever : Program → registers.Running → ℕ → ℕ → ℕ → List ℕ → List ℕ → List ℕ → (Sizes → M → Type 0) → Type 0
@@ -93,10 +100,17 @@ module _ {image rows constants inner : List ℕ} {codes : ℕ} {first : register
   some-reached = i .reached (i .began .sizes) (i .began .machine) (i .began .at) (i .began .accepted) (i .began .small)
 
   -- ---- what the calls require
+  pub some-sliceable : Sliceable (programIn image rows constants inner codes) g handle code u state′ live′ store′
+  some-sliceable =
+      let b = i .began in
+      record { sizes = b .sizes; machine = some-reached .machine; at = some-reached .at; accepted = b .accepted; small = b .small; few = rw (i .sameStore .len) (b .few); block = i .sameState .len ∙ b .block }
+
   pub opcode-there : (code < 4294967296) × (g .place < field rows code 1)
-  opcode-there =
-      let x = some-reached .at in
-      (omega (arith, x .number, x .inside .known, i .began .accepted .few), at-field image rows constants inner codes x)
+  opcode-there = (code-low some-sliceable, at-field image rows constants inner codes (some-reached .at))
+
+  -- the next opcode, by the place where the opcodes of the code begin
+  pub opcode-from : {at : ℕ} {o : Op} → Entry rows (10 * code) at → o ≡ opcodeAt image (at + 14) (g .place) → o ≡ getD (bodyAt image rows code .opcodes) (g .place) noOp
+  opcode-from = look-opcode image rows code (g .place) (opcode-there .1)
 
   pub place-low : g .place < 4294967296
   place-low =
@@ -111,14 +125,13 @@ module _ {image rows constants inner : List ℕ} {codes : ℕ} {first : register
 
     pub step-ready : ReadyWith (programIn image rows constants inner codes) h handle code u o live′ store′ × (length state′ ≡ 8256)
     step-ready =
-        let b = i .began in
-        let x = some-reached .at in (
+        let b = some-sliceable in (
           record {
-            ready = record { sizes = b .sizes; machine = some-reached .machine; frame = pastFrame (x .frame); given = given-at x (b .accepted) (b .small) };
-            uses = x .uses;
-            few = rw (i .sameStore .len) (b .few);
+            ready = record { sizes = b .sizes; machine = b .machine; frame = pastFrame (b .at .frame); given = given-at (b .at) (b .accepted) (b .small) };
+            uses = b .at .uses;
+            few = b .few;
           },
-          i .sameState .len ∙ b .block,
+          b .block,
         )
 
     -- ---- what a step leaves
@@ -196,6 +209,29 @@ module _ {image rows constants inner : List ℕ} {codes : ℕ} {first : register
           rw (d .1 .stateIs, d .1 .liveIs, d .1 .storeIs)
           (reached-end (Closes k (o .operand)) y, some, record { number = rw c at (d .0); operand = ap (λ (b : Op). b .operand) c }))
 
+    -- ---- what an opcode done at once leaves
+    module _ (some : 0 < ticks) {a : Quick} {live″ : List ℕ} (k : Quickly (programIn image rows constants inner codes) h handle code o a live′ store′ live″) {g′ : registers.Running} where
+      pub loops-goes : a ≡ Goes g′ → (left ≡ 0 → ⊥) → Looping image rows constants inner codes first handle code taken begun given state live store g′ u (left - 1) (ticks - 1) state′ live″ store′
+      loops-goes q ne = loops-on some (goes-steps k u state′ q) refl ne
+
+      pub loops-jumps : a ≡ Jumps g′ → Looping image rows constants inner codes first handle code taken begun given state live store g′ u left (ticks - 1) state′ live″ store′
+      loops-jumps q = loops-jumped some (jumps-steps k u state′ q) refl
+
+  -- ---- what opcodes done at once leave
+  module _ {q : Slice} {live″ : List ℕ} (k : Quickens (programIn image rows constants inner codes) g handle code u left ticks q state′ live′ store′ live″) where
+    pub quick-less : q .ticks ≤ ticks
+    quick-less = let b = some-sliceable in k .reached (b .sizes) (b .machine) (b .at) (b .accepted) (b .small) .less
+
+    pub loops-quick : Looping image rows constants inner codes first handle code taken begun given state live store (q .g) u (q .left) (q .ticks) state′ live″ store′
+    loops-quick = record {
+      began = i .began;
+      reached = λ z m x a l. let y = i .reached z m x a l in reached-more Paused y (k .reached z (y .machine) (y .at) a l) (k .uses);
+      lower = omega (arith, i .lower, k .lower);
+      sameState = i .sameState;
+      sameLive = same-on (i .sameLive) (k .sameLive);
+      sameStore = i .sameStore;
+    }
+
   pub ends-paused : {r : Slice} → ticks ≤ 0 → r ≡ sliceOf Paused g u left ticks → Slices (programIn image rows constants inner codes) first handle code taken begun given r state live store state′ live′ store′
   ends-paused none w = rw w (record {
     ends = λ z m x a l. (i .reached z m x a l, omega arith);
@@ -204,3 +240,12 @@ module _ {image rows constants inner : List ℕ} {codes : ℕ} {first : register
     sameLive = i .sameLive;
     sameStore = i .sameStore;
   })
+
+-- ---- The loop of opcodes done at once, where it ends
+module _ {image rows constants inner : List ℕ} {codes : ℕ} {first : registers.Running} {handle code u begun given : ℕ} {state live store : List ℕ} {g : registers.Running} {left ticks : ℕ} {live′ : List ℕ}
+    (i : Looping image rows constants inner codes first handle code u begun given state live store g u left ticks state live′ store) {r : Slice} (w : r ≡ sliceOf Paused g u left ticks) where
+  pub quickens : Quickens (programIn image rows constants inner codes) first handle code u begun given r state live store live′
+  quickens = rw w (record { reached = i .reached; uses = refl; lower = i .lower; sameLive = i .sameLive })
+
+  pub quickens-other : {h : registers.Running} {o : Op} {a : Quick} {live″ : List ℕ} → Quickly (programIn image rows constants inner codes) h handle code o a live′ store live″ → a ≡ Other → Quickens (programIn image rows constants inner codes) first handle code u begun given r state live store live″
+  quickens-other k q = rw (other-same k q) quickens

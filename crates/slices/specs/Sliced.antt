@@ -82,3 +82,10 @@ pub record Slices (P : Program) (g : registers.Running) (handle code u left t : 
   pub sameState : Same state state′
   pub sameLive : Same live live′
   pub sameStore : Same store store′
+
+-- opcodes done at once have brought the run to where memory holds it now; state block and store are as they were
+pub record Quickens (P : Program) (g : registers.Running) (handle code u left t : ℕ) (s : Slice) (state live store live′ : List ℕ) : Type 0 where
+  pub reached : (z : Sizes) (m : M) → At P z m g handle code u (cells state) (cells live) (cells store) → Accepted (P .image) (P .codes) → z .live ≤ 4096 → Reached P z t left m handle code s (cells state) (cells live′) (cells store)
+  pub uses : s .used ≡ u
+  pub lower : s .left ≤ left
+  pub sameLive : Same live live′

@@ -79,6 +79,17 @@ module _ {P : Program} {z : Sizes} {t left : ℕ} {m : M} {handle code : ℕ} wh
   unfoldable pub reached-end : {e : End} {g : registers.Running} {u l k : ℕ} {B L S : List Cell} (end : End) → Reached P z t left m handle code (sliceOf e g u l k) B L S → Reached P z t left m handle code (sliceOf end g u l k) B L S
   reached-end end x = record { machine = x .machine; at = x .at; under = x .under; less = x .less; follows = x .follows }
 
+  -- a run goes on from where another has come
+  pub reached-more : {s s′ : Slice} {u : ℕ} {B L S B′ L′ S′ : List Cell} (end : End) (x : Reached P z t left m handle code s B L S) → Reached P z (s .ticks) (s .left) (x .machine) handle code s′ B′ L′ S′ → s′ .used ≡ u
+      → Reached P z t left m handle code (sliceOf end (s′ .g) u (s′ .left) (s′ .ticks)) B′ L′ S′
+  reached-more end x y e = record {
+    machine = y .machine;
+    at = rw e at (y .at);
+    under = y .under ∙ x .under;
+    less = omega (arith, x .less, y .less);
+    follows = λ fuel. follows-on (x .follows fuel) (y .follows fuel) (omega (arith, x .less, y .less));
+  }
+
   module _ {e : End} {g : registers.Running} {u l k : ℕ} {B L S : List Cell} (x : Reached P z t left m handle code (sliceOf e g u l k) B L S) (lt : 0 < k)
       {g′ : registers.Running} {u′ : ℕ} {B′ L′ S′ : List Cell} where
     below-same : {pace : Pace} (d : SteppedOn P z (outcome P z (nextAction P (x .machine) (x .machine .frames)) (x .machine)) pace (x .at .frame .below) handle code g′ u′ B′ L′ S′) → drop 1 (d .after .frames) ≡ drop 1 (m .frames)

@@ -1,8 +1,8 @@
 -- An opcode done at once: what it leaves; where it is left to `step`, nothing is written.
-use mathlib.Core.Path.{_≡_, refl, sym, ap, subst, _∙_}
+use mathlib.Core.Path.{_≡_, refl, sym, subst, _∙_}
 use mathlib.Core.List.{List, []}
 use Prim.Native.Nat.{ℕ}
-use lib.ListN.{length, getD}
+use lib.ListN.{getD}
 use Rattle.cells.specs.Cells.{cells}
 use Rattle.image.specs.Program.{Code}
 use Rattle.image.specs.Layout.{codeAt}
@@ -23,7 +23,6 @@ use Rattle.steps.specs.Stepped.{Given, Ready, ReadyWith, Steps, StaysOn}
 use Rattle.steps.specs.SteppedLaws.{stays-steps}
 use Rattle.steps.specs.Needed.{constant-is}
 use Rattle.steps.specs.Families.{does-as, loadConst, load-const-is}
-use Rattle.steps.specs.declared.After.{After}
 use Rattle.steps.specs.declared.After.the-variants as after
 use Rattle.steps.specs.declared.Quick.{Quick}
 use Rattle.steps.specs.declared.Quick.the-variants.{Goes, Jumps, Other}
@@ -92,27 +91,13 @@ quick-int image rows constants inner codes {n = n} y e f same d q =
 pub quick-other : {P : Program} {g : registers.Running} {handle code : ℕ} {o : Op} {live store : List ℕ} → Quickly P g handle code o Other live store live
 quick-other = record { ends = refl }
 
--- ---- A step that is tried so first
-ends-length : {P : Program} {g : registers.Running} {handle code : ℕ} {o : Op} (q : Quick) {live store live′ : List ℕ} → Quickly P g handle code o q live store live′ → length live′ ≡ length live
-ends-length (Goes h) k = k .ends [] .same .len
-ends-length (Jumps h) k = k .ends [] .same .len
-ends-length Other k = ap length (k .ends)
+-- ---- The same as a step
+module _ {P : Program} {g : registers.Running} {handle code : ℕ} {o : Op} {q : Quick} {live store live′ : List ℕ} (k : Quickly P g handle code o q live store live′) where
+  pub goes-steps : (u : ℕ) (state : List ℕ) {h : registers.Running} → q ≡ Goes h → Steps P g handle code u o (after.On h u) state live store state live′ store
+  goes-steps u state e = stays-steps state u ((rw e at (k .ends)) state) refl
 
-pub quick-length : {P : Program} {g : registers.Running} {handle code : ℕ} {o : Op} {q : Quick} {live store live′ : List ℕ} → Quickly P g handle code o q live store live′ → length live′ ≡ length live
-quick-length {q = q} k = ends-length q k
-
-module _ {P : Program} {g : registers.Running} {handle code : ℕ} {o : Op} {q : Quick} {live store live′ : List ℕ} (k : Quickly P g handle code o q live store live′) (u : ℕ) (state : List ℕ) where
-  pub goes-steps : {h : registers.Running} → q ≡ Goes h → Steps P g handle code u o (after.On h u) state live store state live′ store
-  goes-steps e = stays-steps state u ((rw e at (k .ends)) state) refl
-
-  pub jumps-steps : {h : registers.Running} → q ≡ Jumps h → Steps P g handle code u o (after.Jumped h) state live store state live′ store
-  jumps-steps e = stays-steps state u ((rw e at (k .ends)) state) refl
+  pub jumps-steps : (u : ℕ) (state : List ℕ) {h : registers.Running} → q ≡ Jumps h → Steps P g handle code u o (after.Jumped h) state live store state live′ store
+  jumps-steps u state e = stays-steps state u ((rw e at (k .ends)) state) refl
 
   pub other-same : q ≡ Other → live′ ≡ live
   other-same e = rw e at (k .ends)
-
-  pub other-ready : q ≡ Other → ReadyWith P g handle code u o live store × (length state ≡ 8256) → ReadyWith P g handle code u o live′ store × (length state ≡ 8256)
-  other-ready e y = subst (λ (l : List ℕ). ReadyWith P g handle code u o l store × (length state ≡ 8256)) (sym (other-same e)) y
-
-  pub other-steps : {a : After} {state′ live″ store′ : List ℕ} → q ≡ Other → Steps P g handle code u o a state live′ store state′ live″ store′ → Steps P g handle code u o a state live store state′ live″ store′
-  other-steps {a} {state′} {live″} {store′} e s = subst (λ (l : List ℕ). Steps P g handle code u o a state l store state′ live″ store′) (other-same e) s

@@ -313,8 +313,8 @@ fn making_opcode(
     }
 }
 
-// Any opcode, by its family.
-fn general(
+// One opcode of the frame in registers, whose place is already past it, by its family.
+pub fn step(
     image: &[u8],
     rows: &[u32],
     constants: &[u32],
@@ -467,58 +467,5 @@ pub fn quick_step(
         45 => quick_next(jumps::pop_jump_if(live, g, 45, x)),
         46 => quick_next(jumps::pop_jump_if(live, g, 46, x)),
         _ => Quick::Other,
-    }
-}
-
-// One opcode of the frame in registers, whose place is already past it.
-pub fn step(
-    image: &[u8],
-    rows: &[u32],
-    constants: &[u32],
-    inner: &[u32],
-    codes: usize,
-    state: &mut [u8],
-    live: &mut [u8],
-    store: &mut [u8],
-    g: Running,
-    handle: usize,
-    code: usize,
-    used: usize,
-    o: Op,
-) -> After
-    requires { ⌜ ReadyWith (programIn (now image) (now rows) (now constants) (now inner) codes) g handle code used o (now live) (now store) × (length (now state) ≡ 8256) ⌝ }
-    ensures { λ r. ⌜ Steps (programIn (now (image .entry)) (now (rows .entry)) (now (constants .entry)) (now (inner .entry)) codes) g handle code used o r (now (state .entry)) (now (live .entry)) (now (store .entry)) (now (state .exit)) (now (live .exit)) (now (store .exit)) ⌝ }
-{
-    match quick_step(
-        image,
-        rows,
-        constants,
-        inner,
-        codes,
-        live,
-        store,
-        g,
-        handle,
-        code,
-        used,
-        o,
-    ) {
-        Quick::Goes(h) => After::On(h, used),
-        Quick::Jumps(h) => After::Jumped(h),
-        Quick::Other => general(
-            image,
-            rows,
-            constants,
-            inner,
-            codes,
-            state,
-            live,
-            store,
-            g,
-            handle,
-            code,
-            used,
-            o,
-        ),
     }
 }
