@@ -2,7 +2,7 @@
 
    A loan is a pointer and a length. Loans must not overlap, but for image and page, and one of length 0 has a pointer that is not null all the same. Nothing is kept between two calls but in
    lent memory, so a host may have as many jobs as it has memory for, and may copy or move one between two calls. The image is lent again in every call, and must be the loaded one.
-   A refused call leaves every byte as it was; a run that is refused at an opcode leaves memory as before that opcode, with the ticks taken so far. */
+   A refused call leaves every byte as it was; a run that is refused at an opcode or effect callback leaves memory as before that one, with the ticks and charges so far. */
 #ifndef LUCIA_H
 #define LUCIA_H
 
@@ -41,7 +41,7 @@ enum {
     LUCIA_MANY_FRAMES = 13,    /* a 257th frame */
     LUCIA_LIVE_FULL = 14,      /* the live stack is too small */
     LUCIA_STORE_FULL = 15,     /* the store is too small */
-    LUCIA_MANY_HANDLERS = 16,  /* a 17th handler in a frame */
+    LUCIA_MANY_HANDLERS = 16,  /* a 17th different handler in a frame */
     LUCIA_DONE = 100,          /* there is a result, or there are no frames */
     LUCIA_OUT_OF_FUEL = 101,   /* fuel is not above 0, or its mark is set */
     LUCIA_PAUSED = 102,        /* all ticks are taken; the next run goes on in the same slice */

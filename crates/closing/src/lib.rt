@@ -1,4 +1,4 @@
-// What closes a slice: a call, a return; and the effect callback, which stands alone. Each is planned, judged on what it would leave, and only then carried out.
+// What closes a slice: a call, a return; and the effect callback, which stands alone. Each is judged on what it would leave, and only then carried out; a call that begins a frame and a return to one go through no plan.
 ghost use Prim.Native.Nat.{ℕ};
 ghost use Rattle.machine.specs.Values.{Program};
 ghost use Rattle.scan.specs.Tables.{programIn};

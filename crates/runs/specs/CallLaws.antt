@@ -37,6 +37,8 @@ module _ (image state live store : List ℕ) {x : Read} {rows constants inner : 
     lengths = (r .runs .sameState .len, length-whole 65536 live live′ (r .runs .sameLive .len) (r .behindLive), length-whole 1048576 store store′ (r .runs .sameStore .len) (r .behindStore));
     behindLive = r .behindLive;
     behindStore = r .behindStore;
+    restLive = r .runs .sameLive .rest;
+    restStore = r .runs .sameStore .rest;
     outOfTurn = λ h.
         let q = r .runs .untouched (viewOf state live store) (is-ready image state live store y a .0 .holding) h in
         (q .0, whole 65536 live live′ (q .1) (r .behindLive), whole 1048576 store store′ (q .2) (r .behindStore));

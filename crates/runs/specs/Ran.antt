@@ -4,7 +4,7 @@ use mathlib.Core.List.{List}
 use mathlib.Core.Bool.{Bool, true}
 use Prim.Native.Nat.{ℕ, _-_, _≤_}
 use lib.ListN.{length, drop}
-use Rattle.cells.specs.Cells.{cells}
+use Rattle.cells.specs.Cells.{cells, rest}
 use Rattle.fuel.specs.Loans.{read, write}
 use Rattle.fuel.specs.declared.Fuel.{Fuel}
 use Rattle.image.specs.Records.{Answer, refused, accepted}
@@ -45,7 +45,7 @@ pub record RunsLoans (P : Program) (fuel : Fuel) (ticks : ℕ) (r : Group) (stat
 abbrev pub ranOf : ℕ → ℕ → Ran
 ranOf n t = record { code = n; ticks = t }
 
--- a run that begins: its answer, ticks, fuel and memory are the definition's; bytes behind what is used do not change, and one that is out of turn leaves every byte
+-- a run that begins: its answer, ticks, fuel and memory are the definition's; bytes behind what is used and behind the last whole cell do not change, and one that is out of turn leaves every byte
 pub record RunDone (t : Trace) (wait : Bool) (r : Ran) (state live store fuel state′ live′ store′ fuel′ : List ℕ) : Type 0 where
   pub answers : r ≡ ranOf (answerOf t) (length (stepsOf t))
   pub holds : Holds (worldAfter t) (cells state′) (liveOf live′) (storeOf store′)
@@ -53,6 +53,8 @@ pub record RunDone (t : Trace) (wait : Bool) (r : Ran) (state live store fuel st
   pub lengths : (length state′ ≡ length state) × (length live′ ≡ length live) × (length store′ ≡ length store)
   pub behindLive : drop 65536 live′ ≡ drop 65536 live
   pub behindStore : drop 1048576 store′ ≡ drop 1048576 store
+  pub restLive : rest (frontLive live′) ≡ rest (frontLive live)
+  pub restStore : rest (frontStore store′) ≡ rest (frontStore store)
   pub outOfTurn : wait ≡ true → (state′ ≡ state) × (live′ ≡ live) × (store′ ≡ store)
 
 abbrev pub RunBy : Sizes → ℕ → Answer Fueled → Ran → List ℕ → List ℕ → List ℕ → List ℕ → List ℕ → List ℕ → List ℕ → List ℕ → Type 0

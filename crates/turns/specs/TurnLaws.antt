@@ -77,6 +77,8 @@ module _ (image state live store : List ℕ) {x : Read} {rows constants inner : 
               lengths = lengths;
               behindLive = l .behindLive;
               behindStore = l .behindStore;
+              restLive = l .sent .sameLive .rest;
+              restStore = l .sent .sameStore .rest;
               refuses = λ none. let z : _≡_ {A = ℕ} 0 1 = cc (t .steps) in absurd (omega arith);
             }
         by (stops number) i v =
@@ -87,6 +89,8 @@ module _ (image state live store : List ℕ) {x : Read} {rows constants inner : 
               lengths = lengths;
               behindLive = l .behindLive;
               behindStore = l .behindStore;
+              restLive = l .sent .sameLive .rest;
+              restStore = l .sent .sameStore .rest;
               refuses = λ none. (v .1, whole 65536 live live′ (v .2) (l .behindLive), whole 1048576 store store′ (v .3) (l .behindStore));
             }
 

@@ -3,7 +3,7 @@ use mathlib.Core.Path.{_≡_}
 use mathlib.Core.List.{List, []}
 use Prim.Native.Nat.{ℕ}
 use lib.ListN.{length, drop}
-use Rattle.cells.specs.Cells.{cells}
+use Rattle.cells.specs.Cells.{cells, rest}
 use Rattle.cells.specs.declared.Cell.{Cell}
 use Rattle.fuel.specs.Loans.{read, write}
 use Rattle.image.specs.Records.{Answer, refused, accepted}
@@ -11,15 +11,17 @@ use Rattle.machine.specs.Calls.{Sizes, noFuel, Trace, stepsOf, answerOf, fuelAf
 use Rattle.memory.specs.Layout.{Holds}
 use Rattle.form.specs.Entry.{Entered, entry, liveOf, storeOf}
 use Rattle.requests.specs.Sent.{Sent, starting, answering, sentTrace}
-use Rattle.loans.specs.Loans.{Fueled, fueled, sizesOf}
+use Rattle.loans.specs.Loans.{frontLive, frontStore, Fueled, fueled, sizesOf}
 
--- what is entered: its answer and memory are the definition's, bytes behind what is used do not change, and one that is refused leaves every byte
+-- what is entered: its answer and memory are the definition's, bytes behind what is used and behind the last whole cell do not change, and one that is refused leaves every byte
 pub record SentDone (t : Trace) (r : ℕ) (state live store state′ live′ store′ : List ℕ) : Type 0 where
   pub answers : r ≡ answerOf t
   pub holds : Holds (worldAfter t) (cells state′) (liveOf live′) (storeOf store′)
   pub lengths : (length state′ ≡ length state) × (length live′ ≡ length live) × (length store′ ≡ length store)
   pub behindLive : drop 65536 live′ ≡ drop 65536 live
   pub behindStore : drop 1048576 store′ ≡ drop 1048576 store
+  pub restLive : rest (frontLive live′) ≡ rest (frontLive live)
+  pub restStore : rest (frontStore store′) ≡ rest (frontStore store)
   pub refuses : stepsOf t ≡ [] → (state′ ≡ state) × (live′ ≡ live) × (store′ ≡ store)
 
 -- ---- A start

@@ -1,6 +1,7 @@
 //! Our runs beside the Rust's `step`, and two loops beside Lua, on the same images in one run.
 
 mod clock;
+mod copies;
 mod lua;
 mod ours;
 mod race;
@@ -27,8 +28,8 @@ fn main() -> ExitCode {
 
 fn run(word: &str) -> Result<(), String> {
     println!(
-        "{:<44} {:>6} {:>7} {:>7} {:>8} {:>9} {:>9} {:>6} {:>9}",
-        "a turn", "turns", "ticks", "calls", "entry", "ours", "Rust", "faster", "Lua"
+        "{:<44} {:>6} {:>7} {:>7} {:>8} {:>9} {:>9} {:>6} {:>9} {:>9}",
+        "a turn", "turns", "ticks", "calls", "entry", "ours", "Rust", "faster", "Lua", "copies"
     );
     let mut ratios = Vec::new();
     for script in scripts().iter().filter(|script| script.name.contains(word)) {
@@ -43,8 +44,10 @@ fn run(word: &str) -> Result<(), String> {
 fn line(script: &Script, figures: &Figures) -> String {
     let Figures { ticks, calls, entry, ours, rust } = figures;
     let lua = script.lua.map_or_else(String::new, |text| lua::nanoseconds(text, script.turns));
+    let copied = |cells| format!("{:.1} ns", copies::nanoseconds(cells, script.turns));
+    let copies = script.captured.map_or_else(String::new, copied);
     format!(
-        "{:<44} {:>6} {ticks:>7} {calls:>7} {entry:>5.1} µs {ours:>6.1} ns {rust:>6.1} ns {:>6.2} {lua:>9}",
+        "{:<44} {:>6} {ticks:>7} {calls:>7} {entry:>5.1} µs {ours:>6.1} ns {rust:>6.1} ns {:>6.2} {lua:>9} {copies:>9}",
         script.name,
         script.turns,
         rust / ours

@@ -7,6 +7,8 @@ pub struct Script {
     pub turns: usize,
     /// The run that is timed begins when so many frames stand for the first time.
     pub frames: usize,
+    /// How many cells a turn captures and puts back.
+    pub captured: Option<usize>,
     /// Its answers, if it calls the host.
     pub host: Option<Host>,
     /// The same as a function `work(n)` of Lua.
@@ -32,7 +34,7 @@ pub fn scripts() -> Vec<Script> {
 }
 
 fn script(name: &str, turns: usize, image: String) -> Script {
-    Script { name: name.into(), image, turns, frames: 1, host: None, lua: None }
+    Script { name: name.into(), image, turns, frames: 1, captured: None, host: None, lua: None }
 }
 
 /// A code whose local 0 counts the turns; `turn` may use locals from 1 on and leaves an empty stack.
@@ -80,7 +82,8 @@ fn call() -> Script {
 /// the run, so that no frame returns in it.
 fn perform(down: usize) -> Script {
     // A continuation costs 1 cell, and each of its frames 6 and 4 locals.
-    let turns = (65_000 / (1 + down * 10)).min(2_000);
+    let captured = 1 + down * 10;
+    let turns = (65_000 / captured).min(2_000);
     let image = format!(
         "code main() locals 2 stack 8 {{
             code deeper(2) locals 4 stack 4 {{
@@ -110,7 +113,11 @@ fn perform(down: usize) -> Script {
             Return
         }}"
     );
-    Script { frames: down + 1, ..script(&format!("perform {down} frames down, resume"), turns, image) }
+    Script {
+        frames: down + 1,
+        captured: Some(captured),
+        ..script(&format!("perform {down} frames down, resume"), turns, image)
+    }
 }
 
 /// A search of 6 frames, captured once, that goes to its end for each of 100,000 values.
