@@ -1,11 +1,16 @@
 #!/bin/sh
-# The exported calls as they are compiled, beside the Rust: the gate's part of what `calls` can do. `rt` must have proved all crates.
+# The exported calls as they are compiled, beside the Rust: the gate's part of what `calls` can do. `rt` must have proved all crates. LUCIA_ARCHIVE names another folder with libexecutor.a.
 set -eu
 cd "$(dirname "$0")/.."
-rt staticlib executor
+[ -n "${LUCIA_ARCHIVE:-}" ] || rt staticlib executor
 cargo build --quiet --release --offline --manifest-path oracle/Cargo.toml -p calls
 calls=oracle/target/release/calls
+work=$(mktemp -d)
+trap 'rm -rf "$work"' EXIT
 "$calls" cases oracle/cases/*.case
-# Two lists for each seed, from seed 1 on.
-"$calls" lists 1 10000000 --seconds 180
+# Two lists for each seed, for three minutes of a core: as two processes that take half of it each, from seeds far apart.
+"$calls" lists 5000001 10000000 --seconds 90 > "$work/lists" &
+"$calls" lists 1 10000000 --seconds 90
+wait $! || { cat "$work/lists"; exit 1; }
+cat "$work/lists"
 "$calls" damage 1 500000

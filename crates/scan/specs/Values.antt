@@ -1,21 +1,21 @@
--- A value in form: one law for each return of `object_of`, `is_constant`, `is_declared`, `value_fits`, `effect_fits`, `is_null` and `target_fits`.
-use mathlib.Core.Path.{_≡_, sym, ap, _∙_}
+-- A value in form: one law for each return of `object_of`, `is_constant`, `is_declared`, `value_fits`, `effect_fits`, `is_null`, `is_plain` and `target_fits`.
+use mathlib.Core.Path.{_≡_, refl, sym, ap, _∙_}
 use mathlib.Core.List.{List, []}
 use mathlib.Core.Bool.{Bool, true, false, not}
 use Prim.Native.Nat.{ℕ, _%_, _<_, _≤_}
 use native.Mathlib.Omega.{arith}
-use native.Mathlib.Decide.{decLt}
+use native.Mathlib.Decide.{decLt, ℕ-discrete}
 use lib.ListN.{length, getD}
 use lib.Dec.{ltb, leb, eqb}
-use borrow.Author.Tests.{not-true, not-false, ltb-true, lt-ltb, le-ltb, le-leb, lt-leb, eq-eqb, ne-eqb}
+use borrow.Author.Tests.{not-true, not-false, ltb-true, lt-ltb, le-ltb, le-leb, lt-leb, eq-eqb, ne-eqb, eqb-true}
 use Rattle.cells.specs.Le.{leAt}
 use Rattle.cells.specs.Cells.{null}
 use Rattle.cells.specs.declared.Cell.{Cell}
-use Rattle.image.specs.Records.{both}
+use Rattle.image.specs.Records.{if?, both}
 use Rattle.image.specs.Program.{Code, noCode, part}
 use Rattle.image.specs.Fine.{noConstant}
 use Rattle.image.specs.Layout.{field, codeAt}
-use Rattle.image.specs.Parts.{clash, first, length-tab, tab-at}
+use Rattle.image.specs.Parts.{clash, first, second, length-tab, tab-at}
 use Rattle.image.specs.declared.Constant.{Constant}
 use Rattle.program.specs.Parts.{tab-past}
 use Rattle.machine.specs.Values.{Program, codeOf, bytesAt}
@@ -233,6 +233,39 @@ module _ (c : Cell) where
   pub null-payload : c .tag ≡ 0 → c .number ≡ 0 → eqb (c .payload) 0 ≡ isNullCell c
   unfolding both
   null-payload e n = simp (e, n)
+
+-- ---- null or an Int
+unfoldable pub isPlain : Cell → Bool
+isPlain c = if? (eqb (c .tag) 2) (eqb (c .number) 0) (isNullCell c)
+
+module _ (c : Cell) where
+  pub plain-int : c .tag ≡ 2 → eqb (c .number) 0 ≡ isPlain c
+  unfolding isPlain
+  plain-int e = simp e
+
+  pub plain-null : {r : Bool} → (c .tag ≡ 2 → ⊥) → r ≡ isNullCell c → r ≡ isPlain c
+  unfolding isPlain
+  plain-null e w = simp (ne-eqb _ _ e) w
+
+  module _ {r : Bool} (P : Program) (S : List Cell) (b : ℕ) where
+    pub told : r ≡ valueFits P S b c → not r ≡ false → true ≡ valueFits P S b c
+    told w f = sym (not-false r f) ∙ w
+
+    -- it is a value whatever program and store are
+    pub plain-fits : r ≡ isPlain c → not r ≡ false → true ≡ valueFits P S b c
+    unfolding isPlain valueFits
+    plain-fits w f = by (ℕ-discrete (c .tag) 2)
+      where
+        plain : isPlain c ≡ true
+        plain = sym w ∙ not-false r f
+
+        by : Dec (c .tag ≡ 2) → true ≡ valueFits P S b c
+        by (yes e) = sym (plain-int e ∙ plain) ∙ value-int P S b c e
+        by (no e) =
+            let z : isNullCell c ≡ true = plain-null e refl ∙ plain in
+            let t : c .tag ≡ 0 = eqb-true _ _ (first _ _ z) in
+            let n : c .number ≡ 0 = eqb-true _ _ (first _ _ (second _ _ z)) in
+            sym (second _ _ (second _ _ z)) ∙ value-null P S b c t n
 
 -- ---- a handler's target
 module _ (limit : ℕ) (c : Cell) where

@@ -12,6 +12,7 @@ ghost use Rattle.machine.specs.Calls.{isConstant};
 ghost use Rattle.memory.specs.View.{handlersOf, frameSize, framesSize};
 ghost use Rattle.memory.specs.Tests.{objectOf, isNullCell, callbackFits, spareFits, targetFits, valueFits, effectFits, codeAt, luciaFits, kindFits, limitOf, handlersFit, bodyFits, frameFits, framesFit};
 ghost use Rattle.scan.specs.Tables.{programIn, scanned, limited};
+ghost use Rattle.scan.specs.Values.{isPlain};
 use cells::Cell;
 
 // Where what was tested ends.
@@ -145,6 +146,16 @@ pub fn effect_fits(
     value_fits(image, rows, constants, inner, codes, store, below, v)
 }
 
+// Is a cell null or an Int? Most cells are, and need no look at program and store.
+fn is_plain(c: Cell) -> bool
+    ensures { λ r. ⌜ r ≡ isPlain c ⌝ }
+{
+    if c.tag == 2 {
+        return c.number == 0;
+    }
+    is_null(c)
+}
+
 // Are n cells of x values?
 pub fn values_fit(
     image: &[u8],
@@ -164,8 +175,10 @@ pub fn values_fit(
     let mut i = 0;
     while i < n {
         let v = cells::get(x, from + i);
-        if !value_fits(image, rows, constants, inner, codes, store, below, v) {
-            return false;
+        if !is_plain(v) {
+            if !value_fits(image, rows, constants, inner, codes, store, below, v) {
+                return false;
+            }
         }
         i += 1;
     }
