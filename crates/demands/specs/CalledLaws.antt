@@ -215,7 +215,7 @@ pub record Called (image : List ℕ) (P : Program) (w : World) (c : Exported) (q
 
 module _ {image : List ℕ} {P : Program} (parsed : parse (P .image) ≡ accepted (P .codes)) (same : P .image ≡ image) where
   -- a world in form that memory holds is the one that the next call finds
-  finds : (w : World) (m : Memory) → length (m .state) ≡ 8256 → Holds w (cells (m .state)) (liveOf (m .live)) (storeOf (m .store)) → WorldFits P (sizes m) w → Finds image P m w
+  pub finds : (w : World) (m : Memory) → length (m .state) ≡ 8256 → Holds w (cells (m .state)) (liveOf (m .live)) (storeOf (m .store)) → WorldFits P (sizes m) w → Finds image P m w
   unfolding entry held heldAnswer
   finds w m n h f =
       let x = exact-out P w (cells (m .state)) (liveOf (m .live)) (storeOf (m .store)) h f in
