@@ -7,9 +7,9 @@ use lib.ListN.{length, getD, drop}
 use Rattle.cells.specs.Cells.{room, cells}
 use Rattle.cells.specs.declared.Cell.{Cell}
 use Rattle.machine.specs.Values.{Program}
-use Rattle.machine.specs.Machine.{running, M}
+use Rattle.machine.specs.Machine.{running, M, used}
 use Rattle.memory.specs.View.{framesSize}
-use Rattle.plan.specs.Rest.{Same, countsOf, Held, Rests}
+use Rattle.plan.specs.Rest.{Same, Appends, countsOf, Held, Rests}
 use Rattle.plan.specs.Plans.{Started, Resumed, Carries}
 use Rattle.plan.specs.declared.Counts.{Counts}
 use Rattle.plan.specs.declared.Params.{Params}
@@ -33,11 +33,12 @@ pub record Movable (R : M → M → Type 0) (c : Counts) (live store starts : Li
   pub lies : Lies machine c live store starts
   pub behind : Roomy (countsOf after) live store starts
 
--- every machine that lies there and that R takes to another for which there is room is that other now; no byte behind the cells changes
+-- every machine that lies there and that R takes to another for which there is room is that other now; no byte behind the cells changes, nor a cell behind the store's objects
 pub record Moves (R : M → M → Type 0) (c : Counts) (live store starts live′ store′ starts′ : List ℕ) : Type 0 where
   pub lies : (m m′ : M) → R m m′ → Lies m c live store starts → Roomy (countsOf m′) live store starts → Lies m′ (countsOf m′) live′ store′ starts′
   pub sameLive : Same live live′
   pub sameStore : Same store store′
+  pub appends : (m m′ : M) → R m m′ → Lies m c live store starts → Roomy (countsOf m′) live store starts → Appends (c .store) (used (m′ .store)) store store′
   pub table : length starts′ ≡ length starts
 
 -- a new frame, for some n arguments
@@ -102,4 +103,5 @@ pub record CarriesOut (plan : Plan) (args : List Cell) (c : Counts) (state live 
   pub sameState : Same state state′
   pub sameLive : Same live live′
   pub sameStore : Same store store′
+  pub appends : (P : Program) (m m′ : M) → Carries P plan args m m′ → m .result ≡ running → Rests m c (cells state) (cells live) (cells store) starts → Roomy (countsOf m′) live store starts → Appends (c .store) (used (m′ .store)) store store′
   pub table : length starts′ ≡ length starts

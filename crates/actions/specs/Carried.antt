@@ -11,7 +11,7 @@ use Rattle.cells.specs.Moves.{paste-is}
 use Rattle.cells.specs.declared.Cell.{Cell}
 use Rattle.machine.specs.Values as v
 use Rattle.machine.specs.Values.{Program}
-use Rattle.machine.specs.Machine.{Frame, Object, continuation, Result, running, returned, failed, unhandled, M, withResult, withStore, framesCost, resultCost, receive}
+use Rattle.machine.specs.Machine.{Frame, Object, continuation, Result, running, returned, failed, unhandled, M, withResult, withStore, framesCost, resultCost, used, receive}
 use Rattle.machine.specs.Calls.{World}
 use Rattle.machine.specs.Form.{ObjectFits}
 use Rattle.machine.specs.FormRules.{object-at}
@@ -22,7 +22,7 @@ use Rattle.moves.specs.Frames.{Live, Gets, keptIn, receive-fits}
 use Rattle.moves.specs.Objects.{Stored}
 use Rattle.moves.specs.Starts.{lower}
 use Rattle.states.specs.Worlds.{Resulted, Changes, withOutcome}
-use Rattle.plan.specs.Rest.{Same, countsOf, Begins, Block, Rests}
+use Rattle.plan.specs.Rest.{Same, Appends, countsOf, Begins, Block, Rests}
 use Rattle.plan.specs.Plans.{Handled, Failed, Received, Carries}
 use Rattle.plan.specs.declared.Counts.{Counts}
 use Rattle.plan.specs.declared.Error.{Error}
@@ -34,7 +34,7 @@ use Rattle.captures.specs.Entered.{Lies, Capturable, Catchable, Captures, Captu
 use Rattle.actions.specs.Acted as acted
 use Rattle.actions.specs.Acted.{Roomy, Carriable, CarriesOut, Startable, StartsFrame, Resumable}
 use Rattle.actions.specs.Tables.{lower-onto, lower-all, begins-top}
-use Rattle.actions.specs.Moved.{count-is, cost-is, flat-is}
+use Rattle.actions.specs.Moved.{count-is, cost-is, flat-is, appends-unwritten}
 
 -- ---- At rest, and lying in memory
 same : (x : List ℕ) → Same x x
@@ -203,32 +203,35 @@ received-lies {v} {m} {m′} {live = live} {store} {starts} {live′} r l b g =
 
 module _ {plan : Plan} {args : List Cell} {c : Counts} (state : List ℕ) {live store starts live′ store′ starts′ : List ℕ} where
   out-by : ((P : Program) (m m′ : M) → Carries P plan args m m′ → Lies m c live store starts → Roomy (countsOf m′) live store starts → Lies m′ (countsOf m′) live′ store′ starts′ × Keeps m m′)
-      → Same live live′ → Same store store′ → length starts′ ≡ length starts → CarriesOut plan args c state live store starts state live′ store′ starts′
-  out-by f a b t = record {
+      → Same live live′ → Same store store′ → ((P : Program) (m m′ : M) → Carries P plan args m m′ → Lies m c live store starts → Roomy (countsOf m′) live store starts → Appends (c .store) (used (m′ .store)) store store′)
+      → length starts′ ≡ length starts → CarriesOut plan args c state live store starts state live′ store′ starts′
+  out-by f a b g t = record {
     rests = λ P m m′ d q r o. let k = f P m m′ d (rests-lies r q) o in lies-rests (k .0) (k .1) (r .block);
     sameState = same state;
     sameLive = a;
     sameStore = b;
+    appends = λ P m m′ d q r o. g P m m′ d (rests-lies r q) o;
     table = t;
   }
 
   pub starts-leaves : {f : Start} {p : Params} → plan ≡ Starts f p → StartsFrame c f p args live store starts live′ store′ starts′ → CarriesOut plan args c state live store starts state live′ store′ starts′
-  starts-leaves e w = out-by (λ P m m′ d l o. let r = turned P args m m′ e d in (w .lies m m′ r l o, keeps _ _ (r .after))) (w .sameLive) (w .sameStore) (w .table)
+  starts-leaves e w = out-by (λ P m m′ d l o. let r = turned P args m m′ e d in (w .lies m m′ r l o, keeps _ _ (r .after))) (w .sameLive) (w .sameStore) (λ P m m′ d l o. w .appends m m′ (turned P args m m′ e d) l o) (w .table)
 
 module _ {plan : Plan} {args : List Cell} {c : Counts} (state : List ℕ) {live store starts live′ starts′ : List ℕ} where
   pub resumes-leaves : {h : ℕ} {v : Cell} → plan ≡ Resumes h v → acted.Resumes c h v live store starts live′ starts′ → CarriesOut plan args c state live store starts state live′ store starts′
-  resumes-leaves e w = out-by state (λ P m m′ d l o. let r = turned P args m m′ e d in (w .lies m m′ r l o, keeps _ (m .store) (r .after))) (w .sameLive) (same store) (w .table)
+  resumes-leaves e w = out-by state (λ P m m′ d l o. let r = turned P args m m′ e d in (w .lies m m′ r l o, keeps _ (m .store) (r .after))) (w .sameLive) (same store) (λ P m m′ d l o. w .appends m m′ (turned P args m m′ e d) l o) (w .table)
 
 module _ {plan : Plan} {args : List Cell} {c : Counts} (state : List ℕ) {live store starts live′ store′ : List ℕ} where
   pub handles-leaves : {i j : ℕ} {x : Cell} {p : Params} → plan ≡ Handles i j x p → Captures c i j x p args starts live store live′ store′ → CarriesOut plan args c state live store starts state live′ store′ starts
-  handles-leaves e w = out-by state (λ P m m′ d l o. let h = turned P args m m′ e d in captured-lies h l (w .frames P m m′ h l) (w .objects P m m′ h l)) (w .sameLive) (w .sameStore) refl
+  handles-leaves e w = out-by state (λ P m m′ d l o. let h = turned P args m m′ e d in captured-lies h l (w .frames P m m′ h l) (w .objects P m m′ h l)) (w .sameLive) (w .sameStore) (λ P m m′ d l o. w .appends P m m′ (turned P args m m′ e d) l) refl
 
   pub catches-leaves : {i j : ℕ} {x : Error} → plan ≡ Catches i j x → CapturesError c i j x starts live store live′ store′ → CarriesOut plan args c state live store starts state live′ store′ starts
-  catches-leaves e w = out-by state (λ P m m′ d l o. let h = turned P args m m′ e d in captured-lies (h .handled) l (w .frames P m m′ h l) (w .objects P m m′ h l)) (w .sameLive) (w .sameStore) refl
+  catches-leaves e w = out-by state (λ P m m′ d l o. let h = turned P args m m′ e d in captured-lies (h .handled) l (w .frames P m m′ h l) (w .objects P m m′ h l)) (w .sameLive) (w .sameStore) (λ P m m′ d l o. w .appends P m m′ (turned P args m m′ e d) l) refl
 
 module _ {plan : Plan} {args : List Cell} {c : Counts} (state : List ℕ) {live : List ℕ} (store : List ℕ) {starts live′ : List ℕ} where
   pub receives-leaves : {v : Cell} {base n : ℕ} → plan ≡ Receives v → base ≡ getD starts (c .frames - 1) 0 → Gets (receive v) base live n live′ → CarriesOut plan args c state live store starts state live′ store starts
-  receives-leaves {v} e b g = out-by state (λ P m m′ d l o. received-lies (turned P args m m′ e d) l b g) (record { rest = g .rest; len = g .len }) (same store) refl
+  receives-leaves {v} e b g = out-by state (λ P m m′ d l o. received-lies (turned P args m m′ e d) l b g) (record { rest = g .rest; len = g .len }) (same store)
+      (λ P m m′ d l o. let r : Received v m m′ = turned P args m m′ e d in appends-unwritten l (ap (λ (x : M). x .store) (r .after))) refl
 
 pub stays-leaves : {plan : Plan} (args : List Cell) (c : Counts) (state live store starts : List ℕ) → plan ≡ Stays → CarriesOut plan args c state live store starts state live store starts
 stays-leaves args c state live store starts e = record {
@@ -238,6 +241,7 @@ stays-leaves args c state live store starts e = record {
   sameState = same state;
   sameLive = same live;
   sameStore = same store;
+  appends = λ P m m′ d q r o. let y : m′ ≡ m = turned P args m m′ e d in appends-unwritten (rests-lies r q) (ap (λ (x : M). x .store) y);
   table = refl;
 }
 
@@ -291,6 +295,7 @@ module _ {plan : Plan} (args : List Cell) (c : Counts) {state state′ : List �
     sameState = changes-same w;
     sameLive = same live;
     sameStore = same store;
+    appends = λ P m m′ d q r o. let y : m′ ≡ withResult (returned v) m = turned P args m m′ e d in appends-unwritten (rests-lies r q) (ap (λ (x : M). x .store) y);
     table = refl;
   }
 
@@ -305,6 +310,7 @@ module _ {plan : Plan} (args : List Cell) (c : Counts) {state state′ : List �
     sameState = changes-same w;
     sameLive = same live;
     sameStore = same store;
+    appends = λ P m m′ d q r o. let f : Failed x m m′ = turned P args m m′ e d in appends-unwritten (rests-lies r q) (ap (λ (y : M). y .store) (f .after));
     table = refl;
   }
 
@@ -324,5 +330,6 @@ unhandled-leaves args {c} {state} {state′} {live} {live′} store starts {x} {
   sameState = changes-same w;
   sameLive = record { rest = u .rest; len = u .len };
   sameStore = same store;
+  appends = λ P m m′ d q r o. let y : m′ ≡ withResult (unhandled x (cells args)) m = turned P (cells args) m m′ e d in appends-unwritten (rests-lies r q) (ap (λ (z : M). z .store) y);
   table = refl;
 }

@@ -20,7 +20,8 @@ use Rattle.moves.specs.Frames.{Live, Starts, newWritten, stands-live}
 use Rattle.moves.specs.Objects as objects
 use Rattle.moves.specs.Objects.{Stored, Kept, lastOf, object-there}
 use Rattle.moves.specs.declared.Running.{Running}
-use Rattle.plan.specs.Rest.{countsOf}
+use Rattle.plan.specs.Rest.{Appends, countsOf}
+use Rattle.plan.specs.Appended.{appends-none, appends-same}
 use Rattle.plan.specs.Plans.{takenCount, listedCells, Enough, Resumed}
 use Rattle.plan.specs.Parsed.{Lists, Pushes}
 use Rattle.plan.specs.declared.Counts.{Counts}
@@ -64,6 +65,10 @@ module _ {m : M} {c : Counts} {live store starts : List ℕ} (l : Lies m c live 
 
   pub used-is : c .store ≡ used (m .store)
   used-is = ap (λ (k : Counts). k .store) (l .counts)
+
+  -- the store is not written, and has the same objects
+  pub appends-unwritten : {s : List Object} → s ≡ m .store → Appends (c .store) (used s) store store
+  appends-unwritten {s} q = appends-none store (omega (arith, used-is, ap (λ (x : List Object). used x) q))
 
 -- ---- A new frame
 -- the numbers of the code, none of which is too large
@@ -134,7 +139,10 @@ starts-frame {c} {f} {p} {args} {live} {a} {b} {live′} {store} {store′} star
         objects = v .stored (m .store) (l .objects) (used-is l);
       });
   sameLive = let w = pushes-same u in record { rest = t .rest ∙ w .rest ∙ s .rest; len = t .len ∙ w .len ∙ s .len };
-  sameStore = v .same;
+  sameStore = appends-same (v .appends);
+  appends = λ m m′ r l room.
+      let k : used (m′ .store) ≡ used (m .store) + listedCells p (length args) = ap (λ (x : M). used (x .store)) (r .after) ∙ parsed-used (p .variadic) (p .count) args (m .store) in
+      subst (λ (n : ℕ). Appends (c .store) n store store′) (omega (arith, k, used-is l)) (v .appends);
   table = length-set starts (c .frames) (c .live);
 }
 
@@ -239,5 +247,6 @@ module _ {c : Counts} {h : ℕ} {v : Cell} {live store starts : List ℕ} (o : R
             resumed-lies r l room-there some b (subst (λ (i : ℕ). Begun (c .frames) (c .live) i (drop (h + 1) (cells store)) starts starts′) k (g .begun));
         sameLive = record { rest = b .rest; len = b .len };
         sameStore = record { rest = refl; len = refl };
+        appends = λ m m′ r l room-there. appends-unwritten l (ap (λ (x : M). x .store) (r .after));
         table = g .begun .len;
       }

@@ -16,7 +16,7 @@ use Rattle.machine.specs.FormLaws.{MachineFits}
 use Rattle.memory.specs.Layout.{written, flat}
 use Rattle.moves.specs.Runs.{Top, endOf, opened}
 use Rattle.moves.specs.declared.Running as registers
-use Rattle.plan.specs.Rest.{Same, countsOf, Begins, Held, Block, Rests}
+use Rattle.plan.specs.Rest.{Same, Appends, countsOf, Begins, Held, Block, Rests}
 use Rattle.plan.specs.Plans.{Carries}
 use Rattle.plan.specs.Inside.{Inside, Threw}
 use Rattle.plan.specs.declared.Counts.{Counts}
@@ -109,6 +109,12 @@ pub record Bounded (state live store starts state′ live′ store′ starts′ 
   pub sameStore : Same store store′
   pub table : length starts′ ≡ length starts
 
+-- how many cells of the store are used then
+abbrev pub usedThen : ℕ → Acted → ℕ
+usedThen u (Refused n) = u
+usedThen u (Done c) = c .store
+usedThen u (Failed c) = c .store
+
 pub record Overable (plan : Plan) (args : List Cell) (c : Counts) (g left : registers.Running) (state live store starts : List ℕ) : Type 0 where
   pub program : Program
   pub machine : M
@@ -127,6 +133,7 @@ pub record ActsOver (plan : Plan) (args : List Cell) (c : Counts) (g left : regi
   pub acts : (P : Program) (m mF m′ : M) → Changed m mF g left (cells live) → Held P mF c (cells live) (cells store) starts → Ready plan mF (cells live) → Carries P plan args mF m′ → Block m (cells state)
       → ActedOn (roomsOf live store) m m′ r (cells state′) (cells live′) (cells store′) starts′
   pub bounded : Bounded state live store starts state′ live′ store′ starts′
+  pub appends : Appends (c .store) (usedThen (c .store) r) store store′
 
 pub record Belowable (plan : Plan) (args : List Cell) (c : Counts) (g : registers.Running) (state live store starts : List ℕ) : Type 0 where
   pub program : Program
@@ -147,6 +154,7 @@ pub record ActsBelow (plan : Plan) (args : List Cell) (c : Counts) (g : register
   pub acts : (P : Program) (m mF m′ : M) → Gone m mF g (cells live) → Held P mF c (cells live) (cells store) starts → Begins (m .frames) starts → Ready plan mF (cells live) → Carries P plan args mF m′ → Block m (cells state)
       → ActedOn (roomsOf live store) m m′ r (cells state′) (cells live′) (cells store′) starts′
   pub bounded : Bounded state live store starts state′ live′ store′ starts′
+  pub appends : Appends (c .store) (usedThen (c .store) r) store store′
 
 -- ---- A step that closes its slice
 -- the step is accepted at a pace, and memory has what it leads to
@@ -203,6 +211,7 @@ pub record Fails (P : Program) (frames u : ℕ) (g left : registers.Running) (x 
       → Acts P z m failing r (cells state′) (cells live′) (cells store′) starts′
   pub never : Failing r
   pub bounded : Bounded state live store starts state′ live′ store′ starts′
+  pub appends : Appends u (usedThen u r) store store′
 
 -- the next opcode of the running frame
 pub record Opcode (r : Running) (p op x : ℕ) : Type 0 where

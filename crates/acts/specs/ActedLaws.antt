@@ -19,7 +19,8 @@ use Rattle.moves.specs.Runs.{Top, Settles}
 use Rattle.moves.specs.Frames.{Live, stands-live}
 use Rattle.moves.specs.Objects.{Stored}
 use Rattle.moves.specs.declared.Running.{Running}
-use Rattle.plan.specs.Rest.{Same, countsOf, Begins, Held, Block, Rests}
+use Rattle.plan.specs.Rest.{Same, Appends, countsOf, Begins, Held, Block, Rests}
+use Rattle.plan.specs.Appended.{appends-refl}
 use Rattle.plan.specs.Plans.{Carries}
 use Rattle.plan.specs.declared.Counts.{Counts}
 use Rattle.plan.specs.declared.Plan.{Plan}
@@ -83,14 +84,17 @@ settles-same s = record { rest = s .rest; len = s .len }
 same-two : {a b c : List ℕ} → Same a b → Same b c → Same a c
 same-two s t = record { rest = t .rest ∙ s .rest; len = t .len ∙ s .len }
 
-pub bounded-refl : (state live store starts : List ℕ) → Bounded state live store starts state live store starts
-bounded-refl state live store starts = record { sameState = same-refl state; sameLive = same-refl live; sameStore = same-refl store; table = refl }
-
 pub bounded-settled : {g : Running} {live live₁ : List ℕ} (state store starts : List ℕ) → Settles g live live₁ → Bounded state live store starts state live₁ store starts
 bounded-settled state store starts s = record { sameState = same-refl state; sameLive = settles-same s; sameStore = same-refl store; table = refl }
 
 bounded-carried : {plan : Plan} {args : List Cell} {c : Counts} {state live live₁ store starts state′ live′ store′ starts′ : List ℕ} → Same live live₁ → CarriesOut plan args c state live₁ store starts state′ live′ store′ starts′ → Bounded state live store starts state′ live′ store′ starts′
 bounded-carried s x = record { sameState = x .sameState; sameLive = same-two s (x .sameLive); sameStore = x .sameStore; table = x .table }
+
+-- the store holds what the machine has then, and nothing behind that changes
+carried-appends : {plan : Plan} {args : List Cell} {c after : Counts} {state live store starts state′ live′ store′ starts′ : List ℕ} (k : Carriable plan args c state live store starts) → after ≡ countsOf (k .after) → CarriesOut plan args c state live store starts state′ live′ store′ starts′
+    → Appends (c .store) (after .store) store store′
+carried-appends {c = c} {store = store} {store′ = store′} k e x =
+    subst (λ (i : Counts). Appends (c .store) (i .store) store store′) (sym e) (x .appends (k .program) (k .machine) (k .after) (k .carries) (k .held .running) (k .rests) (k .behind))
 
 -- ---- The frame is written as it was
 pub settled-rests : {g : Running} {live live₁ : List ℕ} {B S : List Cell} (m : M) (top : Frame) (below : List Frame) (starts : List ℕ) → m .frames ≡ top ∷ below → m .result ≡ running → Top (written top) (flat below) g (cells live)
@@ -145,10 +149,12 @@ module _ {plan : Plan} (bytes : List ℕ) {c : Counts} {g left : Running} {state
       }
 
       module _ {d : Acted} {after : Counts} {live₁ : List ℕ} (j : Judges plan n c live store starts d) (e : d ≡ Done after) (s : Settles left live live₁) where
+        pub over-judged : JudgedAs (roomsOf live store) (o .after) (Done after)
+        over-judged = subst (JudgedAs (roomsOf live store) (o .after)) e (j .judged (o .program) (o .leaves) (o .after) (cells bytes) (length-cells bytes ∙ sym q) (o .carries) (o .held) (o .ready))
+
         unfoldable pub over-carries : Carriable plan (cells bytes) c state live₁ store starts
         over-carries =
             let l = left-live (o .changed) s in
-            let k = subst (JudgedAs (roomsOf live store) (o .after)) e (j .judged (o .program) (o .leaves) (o .after) (cells bytes) (length-cells bytes ∙ sym q) (o .carries) (o .held) (o .ready)) in
             record {
               program = o .program;
               machine = o .leaves;
@@ -157,18 +163,20 @@ module _ {plan : Plan} (bytes : List ℕ) {c : Counts} {g left : Running} {state
               rests = held-rests (o .held) l (block-left _ (o .changed .leaves) (o .block));
               held = held-again (o .held) l;
               before = roomy-left (o .held) l (o .small) (s .len);
-              behind = roomy-after (countsOf (o .after)) (k .0) (o .small) (s .len);
+              behind = roomy-after (countsOf (o .after)) (over-judged .0) (o .small) (s .len);
               block = o .len;
             }
 
         pub over-done : {state′ live′ store′ starts′ : List ℕ} → CarriesOut plan (cells bytes) c state live₁ store starts state′ live′ store′ starts′
             → ActsOver plan (cells bytes) c g left (Done after) state live store starts state′ live′ store′ starts′
+        unfolding over-carries
         over-done {state′} {live′} {store′} {starts′} x = record {
           acts = λ P m mF m′ ch h r y b.
               let k = subst (JudgedAs (roomsOf live store) m′) e (j .judged P mF m′ (cells bytes) (length-cells bytes ∙ sym q) y h r) in
               let t = x .rests P mF m′ y (h .running) (held-rests h (left-live ch s) (block-left _ (ch .leaves) b)) (roomy-after (countsOf m′) (k .0) (o .small) (s .len)) in
               (k .0, k .1, subst (λ (i : Counts). Rests m′ i (cells state′) (cells live′) (cells store′) starts′) (sym (k .1)) t);
           bounded = bounded-carried (settles-same s) x;
+          appends = carried-appends over-carries (over-judged .1) x;
         }
 
   module _ {n : ℕ} (q : n ≡ room bytes) {d : Acted} (j : Judges plan n c live store starts d) where
@@ -178,13 +186,11 @@ module _ {plan : Plan} (bytes : List ℕ) {c : Counts} {g left : Running} {state
           let k = subst (JudgedAs (roomsOf live store) m′) e (j .judged P mF m′ (cells bytes) (length-cells bytes ∙ sym q) y h r) in
           (k .0, k .1, was-rests ch h s b);
       bounded = bounded-settled state store starts s;
+      appends = appends-refl (c .store) store;
     }
 
-    pub over-failed : {k : Counts} → d ≡ Failed k → ActsOver plan (cells bytes) c g left (Failed k) state live store starts state live store starts
-    over-failed e = record {
-      acts = λ P m mF m′ ch h r y b. subst (JudgedAs (roomsOf live store) m′) e (j .judged P mF m′ (cells bytes) (length-cells bytes ∙ sym q) y h r);
-      bounded = bounded-refl state live store starts;
-    }
+    pub over-failed : {k : Counts} → Overable plan (cells bytes) c g left state live store starts → d ≡ Failed k → ActsOver plan (cells bytes) c g left (Failed k) state live store starts state live store starts
+    over-failed o e = absurd (subst (JudgedAs (roomsOf live store) (o .after)) e (j .judged (o .program) (o .leaves) (o .after) (cells bytes) (length-cells bytes ∙ sym q) (o .carries) (o .held) (o .ready)))
 
 -- ---- A plan once the running frame is gone
 pub gone-live : {m mF : M} {g : Running} {L : List Cell} → Gone m mF g L → Live (mF .frames) L
@@ -216,10 +222,12 @@ module _ {plan : Plan} (bytes : List ℕ) {c : Counts} {g : Running} {state live
       }
 
       module _ {d : Acted} {after : Counts} (j : Judges plan n c live store starts d) (e : d ≡ Done after) where
+        pub below-judged : JudgedAs (roomsOf live store) (o .after) (Done after)
+        below-judged = subst (JudgedAs (roomsOf live store) (o .after)) e (j .judged (o .program) (o .leaves) (o .after) (cells bytes) (length-cells bytes ∙ sym q) (o .carries) (o .held) (o .ready))
+
         unfoldable pub below-carries : Carriable plan (cells bytes) c state live store starts
         below-carries =
             let l = gone-live (o .gone) in
-            let k = subst (JudgedAs (roomsOf live store) (o .after)) e (j .judged (o .program) (o .leaves) (o .after) (cells bytes) (length-cells bytes ∙ sym q) (o .carries) (o .held) (o .ready)) in
             record {
               program = o .program;
               machine = o .leaves;
@@ -228,18 +236,20 @@ module _ {plan : Plan} (bytes : List ℕ) {c : Counts} {g : Running} {state live
               rests = held-rests (o .held) l (block-left _ (o .gone .leaves) (o .block));
               held = o .held;
               before = roomy-left (o .held) l (o .small) refl;
-              behind = roomy-after (countsOf (o .after)) (k .0) (o .small) refl;
+              behind = roomy-after (countsOf (o .after)) (below-judged .0) (o .small) refl;
               block = o .len;
             }
 
         pub below-done : {state′ live′ store′ starts′ : List ℕ} → CarriesOut plan (cells bytes) c state live store starts state′ live′ store′ starts′
             → ActsBelow plan (cells bytes) c g (Done after) state live store starts state′ live′ store′ starts′
+        unfolding below-carries
         below-done {state′} {live′} {store′} {starts′} x = record {
           acts = λ P m mF m′ go h bm r y b.
               let k = subst (JudgedAs (roomsOf live store) m′) e (j .judged P mF m′ (cells bytes) (length-cells bytes ∙ sym q) y h r) in
               let t = x .rests P mF m′ y (h .running) (held-rests h (gone-live go) (block-left _ (go .leaves) b)) (roomy-after (countsOf m′) (k .0) (o .small) refl) in
               (k .0, k .1, subst (λ (i : Counts). Rests m′ i (cells state′) (cells live′) (cells store′) starts′) (sym (k .1)) t);
           bounded = bounded-carried (same-refl live) x;
+          appends = carried-appends below-carries (below-judged .1) x;
         }
 
   module _ {n : ℕ} (q : n ≡ room bytes) {d : Acted} (j : Judges plan n c live store starts d) where
@@ -249,10 +259,8 @@ module _ {plan : Plan} (bytes : List ℕ) {c : Counts} {g : Running} {state live
           let k = subst (JudgedAs (roomsOf live store) m′) e (j .judged P mF m′ (cells bytes) (length-cells bytes ∙ sym q) y h r) in
           (k .0, k .1, gone-rests go h bm s b);
       bounded = bounded-settled state store starts s;
+      appends = appends-refl (c .store) store;
     }
 
-    pub below-failed : {k : Counts} → d ≡ Failed k → ActsBelow plan (cells bytes) c g (Failed k) state live store starts state live store starts
-    below-failed e = record {
-      acts = λ P m mF m′ go h bm r y b. subst (JudgedAs (roomsOf live store) m′) e (j .judged P mF m′ (cells bytes) (length-cells bytes ∙ sym q) y h r);
-      bounded = bounded-refl state live store starts;
-    }
+    pub below-failed : {k : Counts} → Belowable plan (cells bytes) c g state live store starts → d ≡ Failed k → ActsBelow plan (cells bytes) c g (Failed k) state live store starts state live store starts
+    below-failed o e = absurd (subst (JudgedAs (roomsOf live store) (o .after)) e (j .judged (o .program) (o .leaves) (o .after) (cells bytes) (length-cells bytes ∙ sym q) (o .carries) (o .held) (o .ready)))

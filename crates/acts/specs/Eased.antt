@@ -32,7 +32,7 @@ use Rattle.counts.specs.CountedLaws.{resumed-is, resumed-reads}
 use Rattle.actions.specs.Acted.{Carriable, CarriesOut}
 use Rattle.acts.specs.Acted.{roomsOf, Judgeable, Eases, Standing, standingCounts, Overable, ActsOver, Belowable, ActsBelow}
 use Rattle.acts.specs.Left.{lower-under, top-cost}
-use Rattle.acts.specs.ActedLaws.{some, over-carries, over-done, below-carries, below-done}
+use Rattle.acts.specs.ActedLaws.{some, over-judged, over-carries, over-done, below-judged, below-carries, below-done}
 use Rattle.acts.specs.declared.Acted.the-variants.{Done}
 
 -- ---- There is room
@@ -165,7 +165,7 @@ module _ {plan : Plan} (bytes : List ℕ) {c : Counts} {g left : Running} {state
   over-easy = over-carries bytes o q (z .eased no .judges) refl s
 
   is-over : z .eased no .after ≡ countsOf (o .after)
-  is-over = z .eased no .judges .judged (o .program) (o .leaves) (o .after) (cells bytes) (length-cells bytes ∙ sym q) (o .carries) (o .held) (o .ready) .1
+  is-over = over-judged bytes o q (z .eased no .judges) refl s .1
 
   pub over-few : c .frames + more ≤ 256
   unfolding over-carries over-easy
@@ -191,7 +191,7 @@ module _ {plan : Plan} (bytes : List ℕ) {c : Counts} {g : Running} {state live
   below-easy = below-carries bytes o q (z .eased no .judges) refl
 
   is-below : z .eased no .after ≡ countsOf (o .after)
-  is-below = z .eased no .judges .judged (o .program) (o .leaves) (o .after) (cells bytes) (length-cells bytes ∙ sym q) (o .carries) (o .held) (o .ready) .1
+  is-below = below-judged bytes o q (z .eased no .judges) refl .1
 
   pub below-few : c .frames + more ≤ 256
   unfolding below-carries below-easy

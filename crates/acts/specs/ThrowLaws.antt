@@ -13,6 +13,7 @@ use Rattle.machine.specs.Opcodes.{doing}
 use Rattle.machine.specs.Calls.{Sizes, handlersLeft, failing, paceOf}
 use Rattle.moves.specs.Runs.{endOf}
 use Rattle.moves.specs.declared.Running as registers
+use Rattle.plan.specs.Rest.{Appends}
 use Rattle.plan.specs.Inside.{left}
 use Rattle.plan.specs.Plans.{Carries}
 use Rattle.plan.specs.Searches.{Lies}
@@ -21,7 +22,7 @@ use Rattle.plan.specs.declared.Error.{Error}
 use Rattle.plan.specs.declared.Plan.{Plan}
 use Rattle.counts.specs.Counted.{Ready}
 use Rattle.calls.specs.Called.{ThrowsError}
-use Rattle.acts.specs.Acted.{ActedOn, Overable, ActsOver, Acts, Busy, Thrown, Failable, Fails}
+use Rattle.acts.specs.Acted.{ActedOn, usedThen, Overable, ActsOver, Acts, Busy, Thrown, Failable, Fails}
 use Rattle.acts.specs.Left.{top-room}
 use Rattle.acts.specs.Apart.{throw-apart, ready-over}
 use Rattle.acts.specs.BusyLaws.{acted-acts, busy-place, busy-changed, busy-held, busy-sizes, busy-small, busy-room}
@@ -92,10 +93,25 @@ module _ {P : Program} {frames u : ℕ} {g h : registers.Running} {x : Error} {s
         acted-acts P z m (cells state′) (cells live′) (cells store′) starts′ d (t .throws) refl (omega arith) v
 
     pub fail-refused : {n : ℕ} → d ≡ Refused n → Fails P frames u g h x (Refused n) state live store starts state′ live′ store′ starts′
-    fail-refused i = record { acts = λ z m b t. subst (λ (r : Acted). Acts P z m failing r (cells state′) (cells live′) (cells store′) starts′) i (thrown-acts z m b t); never = tt; bounded = a .bounded }
+    fail-refused i = record {
+      acts = λ z m b t. subst (λ (r : Acted). Acts P z m failing r (cells state′) (cells live′) (cells store′) starts′) i (thrown-acts z m b t);
+      never = tt;
+      bounded = a .bounded;
+      appends = subst (λ (r : Acted). Appends u (usedThen u r) store store′) i (a .appends);
+    }
 
     pub fail-done : {c : Counts} → d ≡ Done c → Fails P frames u g h x (Failed c) state live store starts state′ live′ store′ starts′
-    fail-done i = record { acts = λ z m b t. subst (λ (r : Acted). Acts P z m failing r (cells state′) (cells live′) (cells store′) starts′) i (thrown-acts z m b t); never = tt; bounded = a .bounded }
+    fail-done i = record {
+      acts = λ z m b t. subst (λ (r : Acted). Acts P z m failing r (cells state′) (cells live′) (cells store′) starts′) i (thrown-acts z m b t);
+      never = tt;
+      bounded = a .bounded;
+      appends = subst (λ (r : Acted). Appends u (usedThen u r) store store′) i (a .appends);
+    }
 
     pub fail-failed : {c : Counts} → d ≡ Failed c → Fails P frames u g h x (Failed c) state live store starts state′ live′ store′ starts′
-    fail-failed i = record { acts = λ z m b t. subst (λ (r : Acted). Acts P z m failing r (cells state′) (cells live′) (cells store′) starts′) i (thrown-acts z m b t); never = tt; bounded = a .bounded }
+    fail-failed i = record {
+      acts = λ z m b t. subst (λ (r : Acted). Acts P z m failing r (cells state′) (cells live′) (cells store′) starts′) i (thrown-acts z m b t);
+      never = tt;
+      bounded = a .bounded;
+      appends = subst (λ (r : Acted). Appends u (usedThen u r) store store′) i (a .appends);
+    }

@@ -15,7 +15,8 @@ use Rattle.memory.specs.Layout.{Written}
 use Rattle.moves.specs.Runs.{Turns, endOf, withCounts, withStack, pushed, pushedAll, block-top}
 use Rattle.moves.specs.Objects.{Stored, made, list-stored}
 use Rattle.moves.specs.declared.Running.{Running}
-use Rattle.plan.specs.Rest.{Same}
+use Rattle.plan.specs.Rest.{Same, Appends}
+use Rattle.plan.specs.Appended.{appends-none, appends-made}
 use Rattle.plan.specs.Plans.{takenCount, listedCells, Enough}
 use Rattle.plan.specs.Parsed.{Lists, Pushes, PushesFrom}
 use Rattle.plan.specs.declared.Params.{Params}
@@ -27,7 +28,7 @@ rest-fits {p} {n} {a} {r} at on fits enough e = let f : at + (1 + (a - p .count)
 
 pub lists : {p : Params} {at n : ℕ} (args : List ℕ) {old new : List ℕ} → p .variadic ≡ true → at + listedCells p (room args) ≤ room old → Enough p (room args) → n ≡ room args
     → Writes old (made (cells old) at 129 0 (cells args) (p .count) (n - p .count)) new → Lists p at (cells args) old new
-unfolding parse
+unfolding parse listedCells
 lists {p} {at} {n} args {old} {new} on fits enough e u =
     let X : List Cell = drop (p .count) (cells args) in
     let q : take (n - p .count) X ≡ X = take-all (n - p .count) X (simp (length-drop, length-cells) (omega arith)) in
@@ -36,12 +37,12 @@ lists {p} {at} {n} args {old} {new} on fits enough e u =
       stored = λ s o a. rw (on, u .cells)
           (subst (λ (x : List Cell). Stored (s ++ (list x ∷ [])) (made (cells old) at 129 0 (cells args) (p .count) (n - p .count))) q
           (list-stored (cells args) at (p .count) (n - p .count) o a (rw length-cells (omega arith)) (rw length-cells (f .2))));
-      same = record { rest = u .rest; len = u .len };
+      appends = rw on (subst (λ (k : ℕ). Appends at k old new) (omega (arith, length-cells args)) (appends-made at 129 0 (p .count) (n - p .count) (cells args) (f .1) u));
     }
 
 pub lists-none : {p : Params} {at : ℕ} {args : List Cell} {old : List ℕ} → p .variadic ≡ false → Lists p at args old old
-unfolding parse
-lists-none off = record { stored = λ s o a. rw off o; same = record { rest = refl; len = refl } }
+unfolding parse listedCells
+lists-none {at = at} {old = old} off = record { stored = λ s o a. rw off o; appends = rw off (appends-none old (omega arith)) }
 
 -- ---- The values on the stack
 pub pushes-from : {g : Running} {at n : ℕ} (args : List ℕ) {old new : List ℕ} → n ≤ room args → at ≡ endOf g → Writes old (paste (cells old) at (drop 0 (cells args)) n) new

@@ -317,7 +317,7 @@ module _ {P : Program} {r : CallbackReturn} {args handlers state live store : Li
                       let x = finished w h .holds ok in
                       let front : take (done .live) (cells copy) ≡ liveCells (world m′ false 64) = ap (take (done .live)) (x .live) ∙ take-at (liveCells (world m′ false 64)) (x .freeLive) (done .live) (sym (used-here w h)) in
                       subst (λ (o : Outcome). Leaves o 0 state live store state′ live′ store′) (chosen true (eq-eqb (done .refusal) 0 ok) w h)
-                      (refl, record { state = x .state; freeLive = drop (done .live) (cells live); live = c .cells ∙ paste-front (cells live) (cells copy) (done .live) ∙ ap (λ (l : List Cell). l ++ drop (done .live) (cells live)) front; freeStore = x .freeStore; store = x .store });
+                      (refl, record { state = x .state; freeLive = drop (done .live) (cells live); live = c .cells ∙ paste-front (cells live) (cells copy) (done .live) ∙ ap (λ (l : List Cell). l ++ drop (done .live) (cells live)) front; freeStore = x .freeStore; store = x .store }, o .appends P (M₀ w h) m′ (carries w h) (rests w h) (held w h) ok .free);
                   sameState = o .sameState;
                   sameLive = record { rest = c .rest; len = c .len };
                   sameStore = o .sameStore;

@@ -18,6 +18,8 @@ use Rattle.moves.specs.Runs.{clearHandlers}
 use Rattle.moves.specs.Frames.{Live, keptStack}
 use Rattle.moves.specs.Objects.{Stored, made, captured}
 use Rattle.moves.specs.Starts.{lower}
+use Rattle.plan.specs.Rest.{Appends}
+use Rattle.plan.specs.Appended.{appends-same, appends-two, appends-made}
 use Rattle.plan.specs.Plans.{Throws, Shows, takenCount, listedCells, Enough, Handled, Caught, oneParam}
 use Rattle.plan.specs.Parsed.{Lists}
 use Rattle.plan.specs.declared.Counts.{Counts}
@@ -101,6 +103,13 @@ module _ {P : Program} {i j : ℕ} {e : Cell} {p : Params} {args : List Cell} {m
   list-is : c .store + 1 + (c .live - getD starts (i + 1) 0) ≡ used (m .store ++ (continuation (h .above) ∷ []))
   list-is = omega (arith, used-is, size-is, length-flat (h .above), captured-used (m .store) (h .above))
 
+  -- so many cells of the store are used then
+  used-after : c .store + 1 + (c .live - getD starts (i + 1) 0) + listedCells p (length args) ≡ used (m′ .store)
+  used-after =
+      let k : used (m′ .store) ≡ used (m .store ++ (continuation (h .above) ∷ [])) + listedCells p (length args) =
+      ap (λ (x : M). used (x .store)) (h .after) ∙ parsed-used (p .variadic) (p .count) args (m .store ++ (continuation (h .above) ∷ [])) in
+      omega (arith, k, list-is)
+
 -- ---- There is room
 -- where the frames above begin, and where a list would go behind the continuation
 abbrev pub aboveAt : ℕ → List ℕ → ℕ
@@ -181,6 +190,13 @@ module _ {c : Counts} {i j : ℕ} {p : Params} {n : ℕ} {live store starts : Li
       }
 
   -- ---- What is left
+  -- the continuation and the list behind it are all that is written
+  captures-appends : {args : List Cell} {mid store′ : List ℕ}
+      → Writes store (made (cells store) (c .store) 130 (c .frames - 1 - i) (cells live) (aboveAt i starts) (c .live - aboveAt i starts)) mid
+      → Lists p (listHandle c i starts) args mid store′
+      → Appends (c .store) (listHandle c i starts + listedCells p (length args)) store store′
+  captures-appends u v = appends-two (appends-made (c .store) 130 (c .frames - 1 - i) (aboveAt i starts) (c .live - aboveAt i starts) (cells live) (omega (arith, numbers .cellsStore)) u) (v .appends)
+
   pub captures-all : {e : Cell} {args : List Cell} {mid live′ store′ : List ℕ}
       → Writes store (made (cells store) (c .store) 130 (c .frames - 1 - i) (cells live) (aboveAt i starts) (c .live - aboveAt i starts)) mid
       → Lists p (listHandle c i starts) args mid store′
@@ -199,7 +215,8 @@ module _ {c : Counts} {i j : ℕ} {p : Params} {n : ℕ} {live store starts : Li
         let t : Stored s (cells mid) = rw (u .cells, k) d in
         subst (λ (x : List Object). Stored x (cells store′)) (sym (ap (λ (x : M). x .store) (h .after))) (v .stored s t (list-is h l));
     sameLive = w .same;
-    sameStore = record { rest = v .same .rest ∙ u .rest; len = v .same .len ∙ u .len };
+    sameStore = appends-same (captures-appends u v);
+    appends = λ P m m′ h l. subst (λ (k : ℕ). Appends (c .store) k store store′) (used-after h l) (captures-appends u v);
   }
 
 -- ---- An error that is thrown
@@ -236,4 +253,5 @@ captures-error {i = i} {j} {e = e} {v} {s} {t} n a u b w =
       objects = λ P m m′ k. w .objects P m m′ (turn P m m′ k);
       sameLive = w .sameLive;
       sameStore = w .sameStore;
+      appends = λ P m m′ k. w .appends P m m′ (turn P m m′ k);
     }

@@ -13,7 +13,7 @@ use Rattle.moves.specs.Runs.{clearHandlers}
 use Rattle.moves.specs.Frames.{Live, keptStack}
 use Rattle.moves.specs.Handlers.{First}
 use Rattle.moves.specs.Objects.{Stored}
-use Rattle.plan.specs.Rest.{Same, countsOf, Begins}
+use Rattle.plan.specs.Rest.{Same, Appends, countsOf, Begins}
 use Rattle.plan.specs.Plans.{takenCount, Enough, Handled, Caught}
 use Rattle.plan.specs.declared.Counts.{Counts}
 use Rattle.plan.specs.declared.Error.{Error}
@@ -93,12 +93,13 @@ Capturable c i j p n live store starts = CapturableWhere (λ (P : Program) (m m�
 abbrev pub Catchable : Counts → ℕ → ℕ → Error → List ℕ → List ℕ → List ℕ → Type 0
 Catchable c i j x live store starts = CapturableWhere (λ (P : Program) (m m′ : M). Caught P i j x m m′) c live store starts
 
--- every machine that lies there and that R takes to another is that other now; no byte behind the cells changes
+-- every machine that lies there and that R takes to another is that other now; no byte behind the cells changes, nor a cell behind the store's objects
 pub record CapturesWhere (R : Program → M → M → Type 0) (c : Counts) (starts live store live′ store′ : List ℕ) : Type 0 where
   pub frames : (P : Program) (m m′ : M) → R P m m′ → Lies m c live store starts → Live (m′ .frames) (cells live′)
   pub objects : (P : Program) (m m′ : M) → R P m m′ → Lies m c live store starts → Stored (m′ .store) (cells store′)
   pub sameLive : Same live live′
   pub sameStore : Same store store′
+  pub appends : (P : Program) (m m′ : M) → R P m m′ → Lies m c live store starts → Appends (c .store) (used (m′ .store)) store store′
 
 abbrev pub Captures : Counts → ℕ → ℕ → Cell → Params → List Cell → List ℕ → List ℕ → List ℕ → List ℕ → List ℕ → Type 0
 Captures c i j e p args starts live store live′ store′ = CapturesWhere (λ (P : Program) (m m′ : M). Handled P i j e p args m m′) c starts live store live′ store′

@@ -18,6 +18,7 @@ use Rattle.memory.specs.Layout.{Written}
 use Rattle.moves.specs.Runs.{Top, Runs, endOf, Settles, top-length}
 use Rattle.moves.specs.declared.Running as registers
 use Rattle.plan.specs.Rest.{Held}
+use Rattle.plan.specs.Appended.{appends-refl}
 use Rattle.plan.specs.Plans.{errorOf, Carries}
 use Rattle.plan.specs.declared.Error.{Error}
 use Rattle.plan.specs.declared.Plan.{Plan}
@@ -146,6 +147,7 @@ module _ (keeps : Bool) {P : Program} {frames u : ℕ} {g : registers.Running} {
   call-few le s = record {
     acts = λ z m b o. (ap (λ (t : Taken). outcome P z t m) (next-few b keeps o le), busy-rests live store b s);
     bounded = bounded-settled state store starts s;
+    appends = appends-refl u store;
   }
 
   module _ {args : List ℕ} (k : Closable P (numberOf keeps) frames u g x state live store starts args) where
@@ -203,6 +205,7 @@ module _ (keeps : Bool) {P : Program} {frames u : ℕ} {g : registers.Running} {
       call-failed {r} {state′} {live′} {store′} {starts′} a = record {
         acts = λ z m b o. by z m r (a .never) (a .acts z m b (call-thrown b keeps o lt (top .0 _ _ (b .inside .runs)) c (not-true yes no) q i j));
         bounded = a .bounded;
+        appends = a .appends;
       }
         where
           by : (z : Sizes) (m : M) (r : Acted) → Failing r → Acts P z m failing r (cells state′) (cells live′) (cells store′) starts′ → Acts P z m closing r (cells state′) (cells live′) (cells store′) starts′
@@ -273,6 +276,7 @@ module _ {P : Program} {frames u : ℕ} {g : registers.Running} {x : ℕ} {state
             acted-acts P z m (cells state′) (cells live′) (cells store′) starts′ r (next-calls b true o lt is c (not-false yes yep) (args-are live x (b .inside .runs) (omega (arith, lt)) en wr)) refl
             (busy-handlers b (b .frame .handle) (b .frame .place + 1) (b .frame .locals) (drop (x + 1) (b .frame .stack))) v;
         bounded = a .bounded;
+        appends = a .appends;
       }
 
   -- ---- 38: over the frames below
@@ -325,4 +329,5 @@ module _ {P : Program} {frames u : ℕ} {g : registers.Running} {x : ℕ} {state
           let v = subst (λ (s : Sizes). ActedOn s m m′ r (cells state′) (cells live′) (cells store′) starts′) (sym (busy-sizes live store b)) y in
           acted-acts P z m (cells state′) (cells live′) (cells store′) starts′ r (next-calls b false o lt is c (not-false yes yep) (args-are live x (b .inside .runs) (omega (arith, lt)) en wr)) refl (busy-handlers-under b) v;
       bounded = a .bounded;
+      appends = a .appends;
     }

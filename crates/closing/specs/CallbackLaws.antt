@@ -198,4 +198,5 @@ module _ {P : Program} {c : Counts} {state live store starts args : List ℕ} wh
           let v = subst (λ (i : Sizes). ActedOn i m m′ r (cells state′) (cells live′) (cells store′) starts′) (sym s) h in
           acted-acts P z m (cells state′) (cells live′) (cells store′) starts′ r n refl (omega arith) v;
       bounded = a .bounded;
+      appends = a .appends;
     }

@@ -9,11 +9,12 @@ use Rattle.machine.specs.Values.{Program}
 use Rattle.machine.specs.Machine.{Frame, effectCallback, M, running}
 use Rattle.machine.specs.Calls.{Sizes, closing, alone}
 use Rattle.moves.specs.declared.Running as registers
+use Rattle.plan.specs.Rest.{Appends}
 use Rattle.plan.specs.declared.Counts.{Counts}
 use Rattle.steps.specs.declared.Closing as c
 use Rattle.steps.specs.declared.Closing.the-variants.{Call, Return, ReturnCall}
 use Rattle.acts.specs.declared.Acted.{Acted}
-use Rattle.acts.specs.Acted.{Acts, Bounded, Busy, Opcode, Resting}
+use Rattle.acts.specs.Acted.{Acts, Bounded, usedThen, Busy, Opcode, Resting}
 
 unfoldable pub closingNumber : c.Closing → ℕ
 closingNumber Call = 36
@@ -40,6 +41,7 @@ pub record Closes (P : Program) (op frames u : ℕ) (g : registers.Running) (x :
   pub acts : (z : Sizes) (m : M) (b : Busy P z m g u frames (cells state) (cells live) (cells store) starts) → Opcode (b .frame) (b .inside .place) op x
       → Acts P z m closing r (cells state′) (cells live′) (cells store′) starts′
   pub bounded : Bounded state live store starts state′ live′ store′ starts′
+  pub appends : Appends u (usedThen u r) store store′
 
 -- ---- An effect callback
 -- an effect callback is next
@@ -62,3 +64,4 @@ pub record Callbackable (P : Program) (c : Counts) (state live store starts args
 pub record PerformsCallback (P : Program) (c : Counts) (r : Acted) (state live store starts state′ live′ store′ starts′ : List ℕ) : Type 0 where
   pub acts : (z : Sizes) (m : M) → Resting P z m c (cells state) (cells live) (cells store) starts → Callback m → Acts P z m alone r (cells state′) (cells live′) (cells store′) starts′
   pub bounded : Bounded state live store starts state′ live′ store′ starts′
+  pub appends : Appends (c .store) (usedThen (c .store) r) store store′

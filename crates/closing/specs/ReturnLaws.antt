@@ -15,6 +15,7 @@ use Rattle.machine.specs.Calls.{Sizes, handlersLeft, outcome, paceOf}
 use Rattle.memory.specs.Layout.{Written}
 use Rattle.moves.specs.Runs.{Top, endOf, Settles}
 use Rattle.moves.specs.declared.Running as registers
+use Rattle.plan.specs.Appended.{appends-refl}
 use Rattle.plan.specs.Plans.{Carries}
 use Rattle.plan.specs.declared.Plan.{Plan}
 use Rattle.calls.specs.Called.{ReturnsValue}
@@ -52,6 +53,7 @@ module _ {frames u : ℕ} {g : registers.Running} {state live store starts : Lis
         let n : nextAction P m (m .frames) ≡ refuses 12 = busy-next b o ∙ return-is P m _ x ∙ top-none (b .frame .below) (b .frame .stack) (sym (busy-stack b) ∙ e) in
         (ap (λ (t : Taken). outcome P z t m) n, busy-rests live store b s);
     bounded = bounded-settled state store starts s;
+    appends = appends-refl u store;
   }
 
   module _ (k : Returnable frames u g state live store starts) where
@@ -97,4 +99,5 @@ module _ {frames u : ℕ} {g : registers.Running} {state live store starts : Lis
           let q = subst (λ (s : Sizes). ActedOn s m m′ r (cells state′) (cells live′) (cells store′) starts′) (sym (busy-sizes live store b)) y in
           acted-acts P z m (cells state′) (cells live′) (cells store′) starts′ r n refl (omega arith) q;
       bounded = a .bounded;
+      appends = a .appends;
     }

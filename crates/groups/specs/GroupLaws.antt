@@ -1,5 +1,5 @@
 -- One law for each return of a group, and the loop of a run.
-use mathlib.Core.Path.{_≡_, refl, sym, ap, _∙_}
+use mathlib.Core.Path.{_≡_, refl, sym, ap, subst, _∙_}
 use mathlib.Core.List.{List}
 use mathlib.Core.Bool.{Bool, true, false}
 use Prim.Native.Nat.{ℕ, _+_, _-_, _<_, _≤_}
@@ -17,7 +17,8 @@ use Rattle.machine.specs.Machine.{M}
 use Rattle.machine.specs.Calls.{Sizes, world, nothing, ends, run, alone}
 use Rattle.moves.specs.Runs.{opened}
 use Rattle.moves.specs.declared.Running as registers
-use Rattle.plan.specs.Rest.{Same}
+use Rattle.plan.specs.Rest.{Same, Appends}
+use Rattle.plan.specs.Appended.{appends-refl, appends-same, appends-two}
 use Rattle.plan.specs.declared.Counts.{Counts}
 use Rattle.slices.specs.Follows.{Follows, follows-none, follows-on}
 use Rattle.slices.specs.Sliced.{Slices}
@@ -26,7 +27,7 @@ use Rattle.acts.specs.Acted.{Bounded, Resting}
 use Rattle.closing.specs.Closed.{PerformsCallback}
 use Rattle.acts.specs.declared.Acted.{Acted}
 use Rattle.groups.specs.Grouped.{stood, actedGroup, restOf, Came, Groups, LuciaGroups, Finishes, Ran}
-use Rattle.groups.specs.GroupedLaws.{done-ends, wait-ends, pause-ends, grouped-end, grouped-acted, alone-charges}
+use Rattle.groups.specs.GroupedLaws.{acted-uses, done-ends, wait-ends, pause-ends, grouped-end, grouped-acted, alone-charges}
 use Rattle.groups.specs.FinishLaws.{room-same}
 use Rattle.groups.specs.TopLaws.{ResultKind, count-is, empty-done, result-done, next-top, host-waits, other-ready, callback-next, lucia-next, at-open}
 use Rattle.groups.specs.declared.Group.{Group}
@@ -53,7 +54,8 @@ lucia-groups {c = c} {t = t} {left} {handle = handle} {code} {starts = starts} n
       f .acts z t left m handle code (w .ends z m x (r .accepted) (r .small))
       (record { count = count-is r; some = omega (arith, n); begins = r .rests .begins; accepted = r .accepted; small = r .small; low = r .low; table = r .table })
       (omega (arith, w .lower, low));
-  bounded = bounded-both (record { sameState = w .sameState; sameLive = w .sameLive; sameStore = w .sameStore; table = refl }) (f .bounded);
+  bounded = bounded-both (record { sameState = w .sameState; sameLive = w .sameLive; sameStore = appends-same (w .appends); table = refl }) (f .bounded);
+  appends = appends-two (w .appends) (f .appends);
 }
 
 -- ---- A group
@@ -66,6 +68,7 @@ module _ {P : Program} {c : Counts} {fuel : Fuel} {t left : ℕ} {r : Group} {st
         let e : t - t ≡ 0 = omega arith in
         rw q (grouped-end n m some x (omega arith) low (rw (e, w, ← h z m x) (follows-none (run P z t fuel left m))));
     bounded = bounded-none state live store starts;
+    appends = subst (λ (x : Group). Appends (c .store) (x .counts .store) store store) (sym q) (appends-refl (c .store) store);
   }
 
   pub group-empty : c .frames ≡ 0 → r ≡ stood 100 fuel t left c → Groups P c fuel t left r state live store starts state live store starts
@@ -83,19 +86,21 @@ module _ {P : Program} {c : Counts} {fuel : Fuel} {t left : ℕ} {r : Group} {st
 
     pub group-performs : {o : Acted} {state′ live′ store′ starts′ : List ℕ} → (tag ≡ 65 → ⊥) → 0 < t → tag ≡ 66 → PerformsCallback P c o state live store starts state′ live′ store′ starts′ → r ≡ actedGroup o fuel 8 t left c
         → Groups P c fuel t left r state live store starts state′ live′ store′ starts′
-    group-performs {o} w lt y p q = record {
+    group-performs {o} {store′ = store′} w lt y p q = record {
       acts = λ z m x low.
           let u = next-top x n h e b in
           let j : t - t ≡ 0 = omega arith in
           rw q (grouped-acted m t left (rw j (follows-none (run P z t fuel left m))) (omega arith) lt (x .accepted) (x .small) (x .fits) (other-ready x u (λ i. w (a ∙ i))) low (x .low) (room-same (p .bounded .sameLive) (x .room))
           (room-same (p .bounded .sameStore) (x .roomStore)) (p .bounded .table ∙ x .table) alone 8 o (λ i after v. alone-charges (run P z (t - 1)) fuel left after v) (x .rests .counts) (p .acts z m x (callback-next x u (sym a ∙ y))));
       bounded = p .bounded;
+      appends = subst (λ (k : ℕ). Appends (c .store) k store store′) (sym (ap (λ (x : Group). x .counts .store) q ∙ acted-uses o fuel 8 t left c)) (p .appends);
     }
 
     pub group-lucia : {state′ live′ store′ starts′ : List ℕ} → (tag ≡ 65 → ⊥) → (tag ≡ 66 → ⊥) → LuciaGroups P c fuel t left r state live store starts state′ live′ store′ starts′ → Groups P c fuel t left r state live store starts state′ live′ store′ starts′
     group-lucia w y p = record {
       acts = λ z m x low. p .acts z m x (lucia-next x (next-top x n h e b) (λ i. w (a ∙ i)) (λ i. y (a ∙ i))) low;
       bounded = p .bounded;
+      appends = p .appends;
     }
 
 -- ---- The loop of a run

@@ -15,7 +15,7 @@ use Rattle.machine.specs.Values.{Program}
 use Rattle.machine.specs.Machine.{Frame, running, M}
 use Rattle.machine.specs.Calls.{Sizes, world, nothing, Trace, ends, run}
 use Rattle.memory.specs.Layout.{written}
-use Rattle.plan.specs.Rest.{Begins}
+use Rattle.plan.specs.Rest.{Appends, Begins}
 use Rattle.plan.specs.declared.Counts.{Counts}
 use Rattle.slices.specs.Follows.{Follows}
 use Rattle.slices.specs.Sliced.{Ended}
@@ -93,11 +93,13 @@ pub record LuciaGroupable (P : Program) (c : Counts) (left : ℕ) (state live st
 pub record Groups (P : Program) (c : Counts) (fuel : Fuel) (t left : ℕ) (r : Group) (state live store starts state′ live′ store′ starts′ : List ℕ) : Type 0 where
   pub acts : (z : Sizes) (m : M) → Resting P z m c (cells state) (cells live) (cells store) starts → left ≤ 64 → Grouped P z t fuel left m r (cells state′) (cells live′) (cells store′) starts′
   pub bounded : Bounded state live store starts state′ live′ store′ starts′
+  pub appends : Appends (c .store) (r .counts .store) store store′
 
 -- the same of one that runs a Lucia frame
 pub record LuciaGroups (P : Program) (c : Counts) (fuel : Fuel) (t left : ℕ) (r : Group) (state live store starts state′ live′ store′ starts′ : List ℕ) : Type 0 where
   pub acts : (z : Sizes) (m : M) → Resting P z m c (cells state) (cells live) (cells store) starts → LuciaTop m → left ≤ 64 → Grouped P z t fuel left m r (cells state′) (cells live′) (cells store′) starts′
   pub bounded : Bounded state live store starts state′ live′ store′ starts′
+  pub appends : Appends (c .store) (r .counts .store) store store′
 
 -- ---- What follows a slice of t ticks that began at m
 -- some slice has ended so
@@ -118,6 +120,7 @@ pub record Finishes (P : Program) (frames : ℕ) (s : Slice) (fuel : Fuel) (r : 
   pub acts : (z : Sizes) (t left : ℕ) (m : M) (handle code : ℕ) → Ended P z t left m handle code s (s .end) (cells state) (cells live) (cells store) → Around P z frames (cells live) (cells store) starts m → s .left ≤ 64
       → Grouped P z t fuel left m r (cells state′) (cells live′) (cells store′) starts′
   pub bounded : Bounded state live store starts state′ live′ store′ starts′
+  pub appends : Appends (s .used) (r .counts .store) store store′
 
 -- ---- A run: its answer, steps, fuel and world are the definition's
 pub record Ran (P : Program) (z : Sizes) (t : ℕ) (fuel : Fuel) (left : ℕ) (m : M) (r : Group) (B L S : List Cell) (starts : List ℕ) : Type 0 where
@@ -130,3 +133,4 @@ pub record Ran (P : Program) (z : Sizes) (t : ℕ) (fuel : Fuel) (left : ℕ) (m
 pub record Runs (P : Program) (c : Counts) (fuel : Fuel) (t left : ℕ) (r : Group) (state live store starts state′ live′ store′ starts′ : List ℕ) : Type 0 where
   pub acts : (z : Sizes) (m : M) → Resting P z m c (cells state) (cells live) (cells store) starts → left ≤ 64 → Ran P z t fuel left m r (cells state′) (cells live′) (cells store′) starts′
   pub bounded : Bounded state live store starts state′ live′ store′ starts′
+  pub appends : Appends (c .store) (r .counts .store) store store′

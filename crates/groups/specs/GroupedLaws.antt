@@ -1,5 +1,5 @@
 -- How a group ends: what is left of the run after it.
-use mathlib.Core.Path.{_≡_, refl}
+use mathlib.Core.Path.{_≡_, refl, ap}
 use mathlib.Core.List.{List}
 use mathlib.Core.Bool.{Bool, true, false}
 use Prim.Native.Nat.{ℕ, zero, suc, _-_, _<_, _≤_}
@@ -22,10 +22,24 @@ use Rattle.machine.specs.FormLaws.{MachineFits, step-fits}
 use Rattle.plan.specs.Rest.{countsOf}
 use Rattle.plan.specs.declared.Counts.{Counts}
 use Rattle.slices.specs.Follows.{Follows, follows-on, follows-step, follows-stop}
-use Rattle.acts.specs.Acted.{Resting, ActsAs, Acts}
+use Rattle.acts.specs.Acted.{usedThen, Resting, ActsAs, Acts}
 use Rattle.acts.specs.declared.Acted.{Acted}
 use Rattle.acts.specs.declared.Acted.the-variants.{Refused, Done, Failed}
 use Rattle.groups.specs.Grouped.{stood, chargedGroup, actedGroup, restOf, Grouped}
+
+-- ---- What a group leaves of the store is what its step leaves
+pub charged-counts : (fuel : Fuel) (cost ticks : ℕ) (c : Counts) → chargedGroup fuel cost ticks c .counts ≡ c
+unfolding chargedGroup
+charged-counts fuel cost ticks c = by (should-continue (consume (consume fuel (pos cost)) (pos 4)))
+  where
+    by : (b : Bool) → if? b (stood 0 (consume (consume fuel (pos cost)) (pos 4)) ticks 64 c) (stood 101 (consume (consume fuel (pos cost)) (pos 4)) ticks 64 c) .counts ≡ c
+    by true = refl
+    by false = refl
+
+pub acted-uses : (a : Acted) (fuel : Fuel) (cost ticks left : ℕ) (c : Counts) → actedGroup a fuel cost ticks left c .counts .store ≡ usedThen (c .store) a
+acted-uses (Refused n) fuel cost ticks left c = refl
+acted-uses (Done after) fuel cost ticks left c = ap (λ (x : Counts). x .store) (charged-counts fuel cost (ticks - 1) after)
+acted-uses (Failed after) fuel cost ticks left c = ap (λ (x : Counts). x .store) (charged-counts fuel 0 (ticks - 1) after)
 
 module _ (P : Program) (z : Sizes) (fuel : Fuel) (left : ℕ) (m : M) where
   -- ---- A run that ends at once

@@ -18,6 +18,8 @@ use Rattle.image.specs.Records.{if?}
 use Rattle.machine.specs.Values.{Program}
 use Rattle.machine.specs.Machine.{M}
 use Rattle.machine.specs.Calls.{Sizes}
+use Rattle.plan.specs.Rest.{Appends}
+use Rattle.plan.specs.Appended.{appends-refl, appends-two}
 use Rattle.plan.specs.declared.Counts.{Counts}
 use Rattle.acts.specs.Acted.{Bounded, Resting}
 use Rattle.acts.specs.declared.Acted.{Acted}
@@ -54,6 +56,7 @@ pub record Looping (P : Program) (r₀ : Group) (state₀ live₀ store₀ start
   pub more : (z : Sizes) (m : M) → Resting P z m (r₀ .counts) (cells state₀) (cells live₀) (cells store₀) starts₀ → r₀ .left ≤ 64 → Came P z (r₀ .ticks) (r₀ .fuel) (r₀ .left) m r (cells state) (cells live) (cells store) starts
   pub next : Groupable P (r .counts) (r .left) state live store starts args
   pub bounded : Bounded state₀ live₀ store₀ starts₀ state live store starts
+  pub appends : Appends (r₀ .counts .store) (r .counts .store) store₀ store
   pub values : length args ≡ length args₀
 
 -- what is left to do falls: a run that is over has none
@@ -67,7 +70,7 @@ grouped-next {args = args} f g n =
     record { sizes = f .sizes; machine = x .machine; resting = x .resting; low = x .low; len = g .bounded .sameState .len ∙ f .len; values = omega (arith, n, f .values) }
 
 pub looping-first : {P : Program} {c : Counts} {fuel : Fuel} {t left : ℕ} {r : Group} {state live store starts args : List ℕ} → Groupable P c left state live store starts args → r ≡ stood 0 fuel t left c → Looping P r state live store starts args r state live store starts args
-looping-first {state = state} {live} {store} {starts} f e = rw e (record { more = λ z m x low. came-none x low; next = f; bounded = bounded-none state live store starts; values = refl })
+looping-first {c = c} {state = state} {live} {store} {starts} f e = rw e (record { more = λ z m x low. came-none x low; next = f; bounded = bounded-none state live store starts; appends = appends-refl (c .store) store; values = refl })
 
 module _ {P : Program} {r₀ r r′ : Group} {state₀ live₀ store₀ starts₀ args₀ state live store starts args state′ live′ store′ starts′ : List ℕ} (l : Looping P r₀ state₀ live₀ store₀ starts₀ args₀ r state live store starts args) (e : r .code ≡ 0)
     (g : Groups P (r .counts) (r .fuel) (r .ticks) (r .left) r′ state live store starts state′ live′ store′ starts′) where
@@ -76,6 +79,7 @@ module _ {P : Program} {r₀ r r′ : Group} {state₀ live₀ store₀ starts�
     more = λ z m x low. came-more (l .more z m x low) e g;
     next = grouped-next (l .next) g n;
     bounded = bounded-both (l .bounded) (g .bounded);
+    appends = appends-two (l .appends) (g .appends);
     values = n ∙ l .values;
   }
 
@@ -91,4 +95,4 @@ module _ {P : Program} {r₀ r r′ : Group} {state₀ live₀ store₀ starts�
 
 pub looping-ran : {P : Program} {c : Counts} {fuel : Fuel} {t left : ℕ} {r₀ r : Group} {state live store starts args args₀ state₀ live₀ store₀ starts₀ : List ℕ} → r₀ ≡ stood 0 fuel t left c → Looping P r₀ state₀ live₀ store₀ starts₀ args₀ r state live store starts args
     → (r .code ≡ 0 → ⊥) → Runs P c fuel t left r state₀ live₀ store₀ starts₀ state live store starts
-looping-ran e l n = let k = rw e at l in record { acts = λ z m x low. came-ran (k .more z m x low) n; bounded = k .bounded }
+looping-ran e l n = let k = rw e at l in record { acts = λ z m x low. came-ran (k .more z m x low) n; bounded = k .bounded; appends = k .appends }

@@ -27,7 +27,8 @@ use Rattle.memory.specs.Layout.{Written}
 use Rattle.moves.specs.Runs.{Top, Runs, Turns, endOf, pushed}
 use Rattle.moves.specs.Objects.{Stored, object-there, upvalue-fits, Building, building-begun, building-more, building-done}
 use Rattle.moves.specs.declared.Running as registers
-use Rattle.plan.specs.Rest.{Same}
+use Rattle.plan.specs.Rest.{Appends}
+use Rattle.plan.specs.Appended.{appends-none, appends-refl, appends-again, appends-set}
 use Rattle.plan.specs.Inside.{Inside}
 use Rattle.plan.specs.InsideLaws.{runs-fits}
 use Rattle.makes.specs.Made.{Named, Closable, MakesClosure, Capturable, Captured}
@@ -134,7 +135,7 @@ pub record Closing (P : Program) (image rows : List ℕ) (g : registers.Running)
   pub fits : u + 1 + n ≤ room store
   pub most : i ≤ n
   pub building : (z : Sizes) (m : M) (r : Running) → Making P g handle u x code (cells live) (cells store) z m r → Building (m .store) code n (take i (all P r code)) (cells new)
-  pub same : Same store new
+  pub appends : Appends u (u + 1 + n) store new
 
 module _ {P : Program} {image rows : List ℕ} (T : Tabled P image rows) {g : registers.Running} {handle u x code : ℕ} {L S : List Cell} {z : Sizes} {m : M} {r : Running} (k : Making P g handle u x code L S z m r) where
   captures-are : codeOf P code .captures ≡ bodyAt image rows code .captures
@@ -156,7 +157,7 @@ module _ {g : registers.Running} {handle u x code : ℕ} {live store : List ℕ}
   closure-no-live le = record {
     next = λ z m r i q w h v. (no-live i _ _ _ (takes-closure (record { inside = i; accepted = q; uses = w; closure = h; named = v })) (i .runs) (omega (arith, length-cells live)), refl, refl);
     sameLive = still live;
-    sameStore = still store;
+    appends = appends-refl u store;
   }
 
   pub closure-no-store : (image rows constants inner : List ℕ) (codes : ℕ) {n s : ℕ} → (n ≡ field rows code 5) × (n < 4294967296) → e < a → s ≡ room store → s - u < 1 + n
@@ -166,7 +167,7 @@ module _ {g : registers.Running} {handle u x code : ℕ} {live store : List ℕ}
         let k : Making (programIn image rows constants inner codes) g handle u x code (cells live) (cells store) z m r = record { inside = i; accepted = q; uses = w; closure = h; named = v } in
         (no-store i _ _ _ (takes-closure k) (i .runs) (omega (arith, length-cells live)) (omega (arith, closure-cost (tabled image rows constants inner codes) k, length-cells store, c .0)), refl, refl);
     sameLive = still live;
-    sameStore = still store;
+    appends = appends-refl u store;
   }
 
 -- ---- There is: the loop
@@ -229,7 +230,7 @@ closing-begun image rows constants inner codes {u = u} {n = n} {store = store} {
       fits = omega (arith, w .len);
       most = omega arith;
       building = λ z m r. begun n lt w;
-      same = still new;
+      appends = appends-none new (omega arith);
     }
 
 module _ {P : Program} {image rows : List ℕ} {g : registers.Running} {handle u x code n i : ℕ} {live store new : List ℕ} (o : Closing P image rows g handle u x code n live store i new) where
@@ -237,7 +238,7 @@ module _ {P : Program} {image rows : List ℕ} {g : registers.Running} {handle u
   Here = Making P g handle u x code (cells live) (cells store)
 
   length-new : length (cells new) ≡ length (cells store)
-  length-new = same-cells store new (o .same .len)
+  length-new = same-cells store new (o .appends .len)
 
   module _ (lt : i < n) where
     abbrev c : Capture
@@ -280,7 +281,7 @@ module _ {P : Program} {image rows : List ℕ} {g : registers.Running} {handle u
           let b : Building (m .store) code n (take i l ++ (v ∷ [])) (set (cells new) (u + 1 + i) v) =
           building-more v (u + 1 + i) (o .building z m r k) (omega (arith, k .uses, length-take-le i l (omega (arith, length-all (o .tables) k, o .count)))) (omega (arith, o .fits, length-new, length-cells store)) in
           rw (t, w .cells) b;
-      same = record { rest = w .rest ∙ o .same .rest; len = w .len ∙ o .same .len };
+      appends = appends-again (o .appends) (appends-set (u + 1 + i) v (omega arith) (omega arith) w);
     }
 
   -- all are put, and the closure is pushed
@@ -298,5 +299,5 @@ module _ {P : Program} {image rows : List ℕ} {g : registers.Running} {handle u
         (subst (λ (b : ℕ). Runs (r .handle) (r .place) (r .locals) (cell 7 b 0 ∷ r .stack) (r .handlers) (r .below) g′ (cells live′)) w (t .top _ _ (y .runs)))
         (rw a at j) (omega arith);
     sameLive = record { rest = t .rest; len = t .len };
-    sameStore = record { rest = o .same .rest ∙ b .rest; len = o .same .len ∙ b .len };
+    appends = appends-again (appends-set u (cell 128 code n) (omega arith) (omega arith) b) (o .appends);
   }

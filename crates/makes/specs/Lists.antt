@@ -18,6 +18,7 @@ use Rattle.moves.specs.Runs.{Runs, Turns, withCounts, endOf, pushed, pop-top, v
 use Rattle.moves.specs.Objects.{Stored, made, list-stored}
 use Rattle.moves.specs.declared.Running as registers
 use Rattle.plan.specs.Rest.{Same}
+use Rattle.plan.specs.Appended.{appends-refl, appends-made}
 use Rattle.plan.specs.Inside.{Inside}
 use Rattle.plan.specs.InsideLaws.{judge-does, judge-live, judge-store, runs-cost, runs-fits}
 use Rattle.makes.specs.Made.{MadeOn, Makes}
@@ -102,7 +103,7 @@ module _ {P : Program} {z : Sizes} {m : M} {r : Running} {g : registers.Running}
 module _ {x : ℕ} {g : registers.Running} {u : ℕ} {live store : List ℕ} where
   pub list-few : g .stack < x → (P : Program) → Makes P 10 x g u (Refused 12) live store live store
   unfolding outcome
-  list-few lt P = record { next = λ z m r i e. (ap (λ (t : Taken). outcome P z t m) (takes-none i x lt), refl, refl); sameLive = still live; sameStore = still store }
+  list-few lt P = record { next = λ z m r i e. (ap (λ (t : Taken). outcome P z t m) (takes-none i x lt), refl, refl); sameLive = still live; appends = appends-refl u store }
 
   module _ (le : x ≤ g .stack) {h : registers.Running} (d : h ≡ withCounts (g .handlers) (g .stack - x) g) where
     module _ {e n : ℕ} (a : e ≡ endOf h) (b : n ≡ room live) where
@@ -110,7 +111,7 @@ module _ {x : ℕ} {g : registers.Running} {u : ℕ} {live store : List ℕ} whe
       list-no-live l P = record {
         next = λ z m r i w. (no-live i _ _ _ (takes-list i x le) (popped i x le d) (omega (arith, length-cells live)), refl, refl);
         sameLive = still live;
-        sameStore = still store;
+        appends = appends-refl u store;
       }
 
       pub list-no-store : {k : ℕ} → e < n → k ≡ room store → u ≤ room store → k - u < 1 + x → (P : Program) → Makes P 10 x g u (Refused 15) live store live store
@@ -118,7 +119,7 @@ module _ {x : ℕ} {g : registers.Running} {u : ℕ} {live store : List ℕ} whe
         next = λ z m r i w.
             (no-store i _ _ _ (takes-list i x le) (popped i x le d) (omega (arith, length-cells live)) (omega (arith, list-cost i x le, length-cells store)), refl, refl);
         sameLive = still live;
-        sameStore = still store;
+        appends = appends-refl u store;
       }
 
     pub list-made : {e k : ℕ} {g′ : registers.Running} {live′ store′ : List ℕ} → e ≡ endOf h → k ≡ room store → u ≤ room store → 1 + x ≤ k - u
@@ -134,5 +135,5 @@ module _ {x : ℕ} {g : registers.Running} {u : ℕ} {live store : List ℕ} whe
           (subst (λ (b : ℕ). Runs (r .handle) (r .place) (r .locals) (cell 6 b 0 ∷ drop x (r .stack)) (r .handlers) (r .below) g′ (cells live′)) q (t .top _ _ (popped i x le d)))
           (rw (← y, w .cells) j) (omega arith);
       sameLive = record { rest = t .rest; len = t .len };
-      sameStore = record { rest = w .rest; len = w .len };
+      appends = appends-made u 129 0 e x (cells live) (omega arith) w;
     }

@@ -16,7 +16,7 @@ use Rattle.machine.specs.Calls.{Sizes, Outcome, does, stops, outcome, counted, 
 use Rattle.moves.specs.Runs.{Runs, endOf}
 use Rattle.moves.specs.Objects.{Stored}
 use Rattle.moves.specs.declared.Running as registers
-use Rattle.plan.specs.Rest.{Same, Block}
+use Rattle.plan.specs.Rest.{Same, Appends, Block}
 use Rattle.plan.specs.Inside.{Inside, left}
 use Rattle.plan.specs.declared.Next.{Next}
 use Rattle.plan.specs.declared.Next.the-variants.{Goes, Jumps, Throws, Stops}
@@ -40,10 +40,15 @@ abbrev pub Mades : Program → Sizes → ℕ → ℕ → M → Running → Made 
 Mades P z op x m r (On g u) live store live′ store′ = MadeOn (outcome P z (opcodeAction P m r op x) m) m r g u (cells live′) (cells store′)
 Mades P z op x m r (Refused n) live store live′ store′ = (outcome P z (opcodeAction P m r op x) m ≡ stops n) × (live′ ≡ live) × (store′ ≡ store)
 
+-- how many cells of the store are used then
+abbrev pub usedBy : ℕ → Made → ℕ
+usedBy u (On g w) = w
+usedBy u (Refused n) = u
+
 pub record Makes (P : Program) (op x : ℕ) (g : registers.Running) (u : ℕ) (n : Made) (live store live′ store′ : List ℕ) : Type 0 where
   pub next : (z : Sizes) (m : M) (r : Running) → Inside P z m r g (cells live) (cells store) → u ≡ used (m .store) → Mades P z op x m r n live store live′ store′
   pub sameLive : Same live live′
-  pub sameStore : Same store store′
+  pub appends : Appends u (usedBy u n) store store′
 
 -- ---- A closure
 -- constant x of the running code is a Function, whose code has this number
@@ -66,7 +71,7 @@ pub record Closable (P : Program) (g : registers.Running) (handle u x code : ℕ
 pub record MakesClosure (P : Program) (g : registers.Running) (handle u x code : ℕ) (n : Made) (live store live′ store′ : List ℕ) : Type 0 where
   pub next : (z : Sizes) (m : M) (r : Running) → Inside P z m r g (cells live) (cells store) → Accepted (P .image) (P .codes) → u ≡ used (m .store) → handle ≡ r .handle → Named P r x code → Mades P z 6 x m r n live store live′ store′
   pub sameLive : Same live live′
-  pub sameStore : Same store store′
+  pub appends : Appends u (usedBy u n) store store′
 
 -- capture i of a code can be read off the running frame
 pub record Capturable (image rows : List ℕ) (g : registers.Running) (handle code i : ℕ) (live store : List ℕ) : Type 0 where

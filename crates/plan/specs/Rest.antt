@@ -1,9 +1,9 @@
 -- How memory holds a machine while a call runs: its counts are in registers, the start of each frame in a table, and the state block shows them only at the end.
 use mathlib.Core.Path.{_≡_}
 use mathlib.Core.List.{List, [], _++_}
-use Prim.Native.Nat.{ℕ, _+_, _<_}
+use Prim.Native.Nat.{ℕ, _+_, _<_, _≤_}
 use lib.ListN.{length, getD, drop}
-use Rattle.cells.specs.Cells.{rest}
+use Rattle.cells.specs.Cells.{cells, rest}
 use Rattle.cells.specs.declared.Cell.{Cell}
 use Rattle.machine.specs.Values.{Program}
 use Rattle.machine.specs.Machine.{Frame, running, M, framesCost, used, resultCost}
@@ -19,6 +19,13 @@ use Rattle.plan.specs.declared.Counts.{Counts}
 pub record Same (old new : List ℕ) : Type 0 where
   pub rest : rest new ≡ rest old
   pub len : length new ≡ length old
+
+-- the store had u cells used and has u′: nothing behind those changes, no cell and no byte
+pub record Appends (u u′ : ℕ) (old new : List ℕ) : Type 0 where
+  pub rest : rest new ≡ rest old
+  pub len : length new ≡ length old
+  pub grows : u ≤ u′
+  pub free : drop u′ (cells new) ≡ drop u′ (cells old)
 
 abbrev pub countsOf : M → Counts
 countsOf m = record { frames = length (m .frames); live = framesCost (m .frames) + resultCost (m .result); store = used (m .store) }

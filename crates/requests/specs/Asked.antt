@@ -3,7 +3,7 @@ use mathlib.Core.Path.{_≡_}
 use mathlib.Core.List.{List, []}
 use mathlib.Core.Bool.{Bool, true, false}
 use Prim.Native.Nat.{ℕ, _%_, _<_, _≤_}
-use lib.ListN.{length}
+use lib.ListN.{length, drop}
 use Rattle.cells.specs.Cells.{room, cells}
 use Rattle.cells.specs.declared.Cell.{Cell}
 use Rattle.image.specs.Fine.{Accepted}
@@ -13,7 +13,7 @@ use Rattle.machine.specs.Calls.{Sizes, Outcome, does, stops, World, world, idle
 use Rattle.machine.specs.Form.{StoreFits, WorldFits}
 use Rattle.memory.specs.Layout.{bit, stateCells, Holds}
 use Rattle.moves.specs.Objects.{Stored}
-use Rattle.plan.specs.Rest.{Same, countsOf, Held, Block, Rests}
+use Rattle.plan.specs.Rest.{Same, Appends, countsOf, Held, Block, Rests}
 use Rattle.plan.specs.Plans.{Carries}
 use Rattle.plan.specs.declared.Counts.{Counts}
 use Rattle.plan.specs.declared.Plan.{Plan}
@@ -72,6 +72,8 @@ pub record FinishLeaves (z : Sizes) (m′ : M) (r : Finished) (state′ live′ 
 pub record Finishes (plan : Plan) (args : List Cell) (c : Counts) (most : ℕ) (r : Finished) (state live store starts state′ live′ store′ : List ℕ) : Type 0 where
   pub leaves : (P : Program) (m m′ : M) → Carries P plan args m m′ → Rests m c (cells state) (cells live) (cells store) starts → Held P m c (cells live) (cells store) starts
       → FinishLeaves (record { live = most; store = room store }) m′ r state′ live′ store′
+  pub appends : (P : Program) (m m′ : M) → Carries P plan args m m′ → Rests m c (cells state) (cells live) (cells store) starts → Held P m c (cells live) (cells store) starts
+      → r .refusal ≡ 0 → Appends (c .store) (used (m′ .store)) store store′
   pub refused : (r .refusal ≡ 0 → ⊥) → (state′ ≡ state) × (live′ ≡ live) × (store′ ≡ store)
   pub sameState : Same state state′
   pub sameLive : Same live live′
@@ -95,9 +97,10 @@ pub record Startable (P : Program) (u : ℕ) (f : Cell) (args state live store :
   pub passes : (w : World) → Holding P w state live store → Passes P u f (cells args) w
 
 -- ---- A start or an answer, as it was sent
--- what is done leaves a machine with no slice begun and nobody awaited; what is refused leaves every byte
+-- what is done leaves a machine with no slice begun and nobody awaited, and no cell behind its objects changes; what is refused leaves every byte
 abbrev pub Leaves : Outcome → ℕ → List ℕ → List ℕ → List ℕ → List ℕ → List ℕ → List ℕ → Type 0
-Leaves (does d m) r state live store state′ live′ store′ = (r ≡ 0) × Holds (world m false 64) (cells state′) (cells live′) (cells store′)
+Leaves (does d m) r state live store state′ live′ store′ =
+    (r ≡ 0) × Holds (world m false 64) (cells state′) (cells live′) (cells store′) × (drop (used (m .store)) (cells store′) ≡ drop (used (m .store)) (cells store))
 Leaves (stops n) r state live store state′ live′ store′ = (r ≡ n) × (state′ ≡ state) × (live′ ≡ live) × (store′ ≡ store)
 
 pub record SentWorld (P : Program) (s : Sent) (r : ℕ) (state live store state′ live′ store′ : List ℕ) : Type 0 where

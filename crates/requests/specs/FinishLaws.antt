@@ -4,7 +4,7 @@ use mathlib.Core.List.{List}
 use mathlib.Core.Bool.{Bool, true, false}
 use Prim.Native.Nat.{ℕ, zero, suc, _≤_}
 use native.Mathlib.Omega.{arith}
-use lib.ListN.{length}
+use lib.ListN.{length, drop}
 use lib.Dec.{eqb, ltb}
 use borrow.Author.Tests.{ne-eqb, ltb-false}
 use Rattle.cells.specs.Cells.{room, cells}
@@ -12,7 +12,7 @@ use Rattle.cells.specs.CellsLaws.{length-cells}
 use Rattle.cells.specs.declared.Cell.{Cell}
 use Rattle.image.specs.Records.{if?}
 use Rattle.machine.specs.Values.{Program}
-use Rattle.machine.specs.Machine.{M}
+use Rattle.machine.specs.Machine.{M, used}
 use Rattle.machine.specs.Opcodes.{Action}
 use Rattle.machine.specs.Calls.{Sizes, handlersLeft, does, stops, judge}
 use Rattle.moves.specs.Frames.{Live}
@@ -87,6 +87,7 @@ module _ (args : List ℕ) {plan : Plan} {c : Counts} {most : ℕ} {state live s
     pub finish-refused : (no ≡ 0 → ⊥) → Finishes plan (cells args) c most (record { refusal = no; live = after .live }) state live store starts state live store
     finish-refused ne = record {
       leaves = λ P m m′ a r h. record { answer = number-is m′ a r h; holds = λ z. absurd (ne z); used = λ z. absurd (ne z) };
+      appends = λ P m m′ a r h z. absurd (ne z);
       refused = λ _. (refl, refl, refl);
       sameState = record { rest = refl; len = refl };
       sameLive = record { rest = refl; len = refl };
@@ -134,6 +135,7 @@ module _ (args : List ℕ) {plan : Plan} {c : Counts} {most : ℕ} {state live s
                 holds = λ _. rests-holds false 64 y (v .shows m′ false (y .block) x refl);
                 used = λ _. ap (λ (n : Counts). n .live) x;
               };
+          appends = λ P m m′ a r h _. o .appends P m m′ a (h .running) r (roomy-in m′ (after-is m′ a r h));
           refused = λ ne. absurd (ne refl);
           sameState = record { rest = v .same .rest ∙ o .sameState .rest; len = v .same .len ∙ o .sameState .len };
           sameLive = o .sameLive;
@@ -142,9 +144,10 @@ module _ (args : List ℕ) {plan : Plan} {c : Counts} {most : ℕ} {state live s
 
 -- ---- By the machine's definition, which judges the same
 pub judged-leaves : {z : Sizes} (d : Action) {m′ : M} {r : Finished} {state live store state′ live′ store′ : List ℕ} → handlersLeft d ≤ 16 → FinishLeaves z m′ r state′ live′ store′
-    → ((r .refusal ≡ 0 → ⊥) → (state′ ≡ state) × (live′ ≡ live) × (store′ ≡ store)) → Leaves (judge z d m′) (r .refusal) state live store state′ live′ store′
-judged-leaves {z} d {m′} {r} {state} {live} {store} {state′} {live′} {store′} few f kept = rw (judged z d m′ few) (by (refusalBy z (countsOf m′)) (f .answer))
+    → (r .refusal ≡ 0 → drop (used (m′ .store)) (cells store′) ≡ drop (used (m′ .store)) (cells store)) → ((r .refusal ≡ 0 → ⊥) → (state′ ≡ state) × (live′ ≡ live) × (store′ ≡ store))
+    → Leaves (judge z d m′) (r .refusal) state live store state′ live′ store′
+judged-leaves {z} d {m′} {r} {state} {live} {store} {state′} {live′} {store′} few f free kept = rw (judged z d m′ few) (by (refusalBy z (countsOf m′)) (f .answer))
   where
     by : (n : ℕ) → r .refusal ≡ n → Leaves (if? (eqb n 0) (does d m′) (stops n)) (r .refusal) state live store state′ live′ store′
-    by zero e = (e, f .holds e)
+    by zero e = (e, f .holds e, free e)
     by (suc n) e = let k = kept (λ x. omega arith) in rw (ne-eqb (suc n) 0 (λ x. omega arith)) (e, k .0, k .1, k .2)

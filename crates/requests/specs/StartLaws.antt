@@ -240,7 +240,7 @@ module _ {P : Program} {u : ℕ} {f : Cell} {args state live store : List ℕ} (
             let m′ = calledIn P f (cells args) w in
             let x = o .leaves P (w .machine) m′ (carries w h) (rests h p starts) (held h p starts) in
             let y = subst (λ (n : ℕ). FinishLeaves (record { live = n; store = room store }) m′ done state′ live′ store′) l x in
-            rw (sent-is args (roomsOf live store) (s .whole) p) (judged-leaves (calls f (cells args) []) (omega arith) y (o .refused));
+            rw (sent-is args (roomsOf live store) (s .whole) p) (judged-leaves (calls f (cells args) []) (omega arith) y (λ z. o .appends P (w .machine) m′ (carries w h) (rests h p starts) (held h p starts) z .free) (o .refused));
         sameState = o .sameState;
         sameLive = o .sameLive;
         sameStore = o .sameStore;

@@ -1,14 +1,17 @@
 -- One law for each need and return of a run as a call.
-use mathlib.Core.Path.{_≡_, refl, ap, _∙_}
+use mathlib.Core.Path.{_≡_, refl, sym, ap, _∙_}
 use mathlib.Core.List.{List}
 use Prim.Native.Nat.{ℕ, _-_, _≤_}
+use lib.ListN.{drop}
+use Rattle.cells.specs.Cells.{cells}
 use Rattle.fuel.specs.Loans.{read, write}
 use Rattle.fuel.specs.declared.Fuel.{Fuel}
 use Rattle.fuel.specs.declared.Loan.{Loan}
 use Rattle.fuel.specs.declared.Loan.the-variants as loan
 use Rattle.layout.specs.declared.Read.{Read}
 use Rattle.layout.specs.declared.Read.the-variants as reads
-use Rattle.machine.specs.Calls.{Trace, runs, callOf}
+use Rattle.machine.specs.Machine.{used}
+use Rattle.machine.specs.Calls.{Trace, runs, callOf, worldAfter}
 use Rattle.form.specs.Entry.{viewOf, Enters}
 use Rattle.groups.specs.declared.Group.{Group}
 use Rattle.loans.specs.Loans.{frontLive, frontStore, sizesOf}
@@ -25,6 +28,9 @@ module _ (image state live store : List ℕ) {x : Read} {rows constants inner : 
   run-leaves : RunLeaves trace t g state′ (frontLive live′) (frontStore store′)
   run-leaves = let h = is-ready image state live store y a in rw (← front-sizes live store) (r .runs .leaves (viewOf state live store) (h .0 .holding) (h .1))
 
+  run-free : drop (used (worldAfter trace .machine .store)) (cells (frontStore store′)) ≡ drop (used (worldAfter trace .machine .store)) (cells (frontStore store))
+  run-free = let h = is-ready image state live store y a in rw (← front-sizes live store) (r .runs .free (viewOf state live store) (h .0 .holding) (h .1))
+
   -- no more ticks are left than were given
   pub call-most : g .ticks ≤ t
   call-most = run-leaves .most
@@ -39,6 +45,7 @@ module _ (image state live store : List ℕ) {x : Read} {rows constants inner : 
     behindStore = r .behindStore;
     restLive = r .runs .sameLive .rest;
     restStore = r .runs .sameStore .rest;
+    freeStore = let n = used (worldAfter trace .machine .store) in ap (drop n) (sym (store-cells store′)) ∙ run-free ∙ ap (drop n) (store-cells store);
     outOfTurn = λ h.
         let q = r .runs .untouched (viewOf state live store) (is-ready image state live store y a .0 .holding) h in
         (q .0, whole 65536 live live′ (q .1) (r .behindLive), whole 1048576 store store′ (q .2) (r .behindStore));

@@ -26,7 +26,7 @@ use Rattle.groups.specs.declared.Group.{Group}
 use Rattle.requests.specs.Asked.{roomsOf, Holding, Entered, Leavable, LeavesWorld}
 use Rattle.requests.specs.AskedLaws.{args-cost, live-of}
 use Rattle.runs.specs.Ran.{RunsWorld}
-use Rattle.runs.specs.RanLaws.{resting-of, ran-leaves, wait-leaves}
+use Rattle.runs.specs.RanLaws.{resting-of, ran-leaves, ran-uses, wait-leaves}
 
 -- what a reader of the state block says of the world that it holds
 abbrev Shows : List ℕ → (World → ℕ) → ℕ → Type 0
@@ -116,6 +116,7 @@ module _ {P : Program} {state live store : List ℕ} (x : Entered P state live s
             sameState = same-both (w .bounded .sameState) (l .same);
             sameLive = w .bounded .sameLive;
             sameStore = w .bounded .sameStore;
+            free = λ v h a. subst (λ (n : ℕ). drop n (cells store′) ≡ drop n (cells store)) (ran-uses P (roomsOf live store) fuel t v (none v h) (lent-ran v h)) (w .appends .free);
           }
 
       pub lent-waits : {on : ℕ} {state′ : List ℕ} → Shows state (λ w. bit (w .wait)) on → on ≡ 0 → r .code ≡ 103 → LeavesWorld (r .counts) (r .left) 1 state₁ state′
@@ -134,4 +135,5 @@ module _ {P : Program} {state live store : List ℕ} (x : Entered P state live s
     sameState = same-refl state;
     sameLive = same-refl live;
     sameStore = same-refl store;
+    free = λ v h a. refl;
   }

@@ -10,6 +10,7 @@ use Rattle.fuel.specs.declared.Fuel.{Fuel}
 use Rattle.image.specs.Records.{Answer, refused, accepted}
 use Rattle.image.specs.Fine.{Accepted}
 use Rattle.machine.specs.Values.{Program}
+use Rattle.machine.specs.Machine.{used}
 use Rattle.machine.specs.Calls.{Sizes, World, runs, Trace, callOf, answerOf, stepsOf, fuelAfter, worldAfter}
 use Rattle.memory.specs.Layout.{Holds}
 use Rattle.form.specs.Entry.{entry, liveOf, storeOf}
@@ -34,6 +35,8 @@ pub record RunsWorld (P : Program) (fuel : Fuel) (ticks : ℕ) (r : Group) (stat
   pub sameState : Same state state′
   pub sameLive : Same live live′
   pub sameStore : Same store store′
+  pub free : (w : World) → Holding P w state live store → Accepted (P .image) (P .codes)
+      → (let s = worldAfter (callOf P (roomsOf live store) (runs ticks fuel) w) .machine .store in drop (used s) (cells store′) ≡ drop (used s) (cells store))
 
 -- ---- Over whole loans: bytes behind what is used do not change
 pub record RunsLoans (P : Program) (fuel : Fuel) (ticks : ℕ) (r : Group) (state live store state′ live′ store′ : List ℕ) : Type 0 where
@@ -45,7 +48,7 @@ pub record RunsLoans (P : Program) (fuel : Fuel) (ticks : ℕ) (r : Group) (stat
 abbrev pub ranOf : ℕ → ℕ → Ran
 ranOf n t = record { code = n; ticks = t }
 
--- a run that begins: its answer, ticks, fuel and memory are the definition's; bytes behind what is used and behind the last whole cell do not change, and one that is out of turn leaves every byte
+-- a run that begins: its answer, ticks, fuel and memory are the definition's; cells behind the store's objects, bytes behind what is used and behind the last whole cell do not change, and one that is out of turn leaves every byte
 pub record RunDone (t : Trace) (wait : Bool) (r : Ran) (state live store fuel state′ live′ store′ fuel′ : List ℕ) : Type 0 where
   pub answers : r ≡ ranOf (answerOf t) (length (stepsOf t))
   pub holds : Holds (worldAfter t) (cells state′) (liveOf live′) (storeOf store′)
@@ -55,6 +58,7 @@ pub record RunDone (t : Trace) (wait : Bool) (r : Ran) (state live store fuel st
   pub behindStore : drop 1048576 store′ ≡ drop 1048576 store
   pub restLive : rest (frontLive live′) ≡ rest (frontLive live)
   pub restStore : rest (frontStore store′) ≡ rest (frontStore store)
+  pub freeStore : drop (used (worldAfter t .machine .store)) (storeOf store′) ≡ drop (used (worldAfter t .machine .store)) (storeOf store)
   pub outOfTurn : wait ≡ true → (state′ ≡ state) × (live′ ≡ live) × (store′ ≡ store)
 
 abbrev pub RunBy : Sizes → ℕ → Answer Fueled → Ran → List ℕ → List ℕ → List ℕ → List ℕ → List ℕ → List ℕ → List ℕ → List ℕ → Type 0

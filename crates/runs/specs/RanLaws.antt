@@ -16,6 +16,7 @@ use Rattle.machine.specs.Machine.{framesCost, resultCost, used}
 use Rattle.machine.specs.Calls.{Sizes, World, world, nothing, ends, runs, run, callOf, answerOf, stepsOf, fuelAfter, worldAfter}
 use Rattle.memory.specs.Layout.{flat, bit, resultShown}
 use Rattle.moves.specs.Starts.{Starting, starting-lower, starting-used}
+use Rattle.plan.specs.declared.Counts.{Counts}
 use Rattle.acts.specs.Acted.{Resting}
 use Rattle.groups.specs.Grouped.{Ran}
 use Rattle.groups.specs.declared.Group.{Group}
@@ -72,6 +73,11 @@ module _ (P : Program) (z : Sizes) (fuel : Fuel) (t : ℕ) (w : World) where
         fuel = sym (f .fuel);
         holds = rw (f .world) (rests-holds (eqb (r .code) 103) (r .left) (a .resting .rests) s);
       })
+
+  -- how much of the store is used then
+  pub ran-uses : {r : Group} {B L S : List Cell} {starts : List ℕ} → w .wait ≡ false → Ran P z t fuel (w .slice) (w .machine) r B L S starts → r .counts .store ≡ used (worldAfter (callOf P z (runs t fuel) w) .machine .store)
+  unfolding worldAfter
+  ran-uses e a = rw (call-runs e, a .follows .world) (ap (λ (c : Counts). c .store) (a .resting .rests .counts))
 
   pub wait-leaves : {r : Group} {state live store : List ℕ} → w .wait ≡ true → Holding P w state live store → r .code ≡ 11 → r .ticks ≡ t → r .fuel ≡ fuel → RunLeaves (callOf P z (runs t fuel) w) t r state live store
   unfolding answerOf stepsOf fuelAfter worldAfter

@@ -1,5 +1,5 @@
 -- The loop of a slice: its invariant, what the calls in it require, and one law for each way out.
-use mathlib.Core.Path.{_≡_, refl, sym, ap, _∙_}
+use mathlib.Core.Path.{_≡_, refl, sym, ap, subst, _∙_}
 use mathlib.Core.List.{List}
 use Prim.Native.Nat.{ℕ, _+_, _-_, _*_, _<_, _≤_}
 use native.Mathlib.Omega.{arith}
@@ -19,7 +19,8 @@ use Rattle.machine.specs.Values.{Program, codeOf}
 use Rattle.machine.specs.Machine.{M}
 use Rattle.machine.specs.Calls.{Sizes}
 use Rattle.moves.specs.declared.Running as registers
-use Rattle.plan.specs.Rest.{Same}
+use Rattle.plan.specs.Rest.{Same, Appends}
+use Rattle.plan.specs.Appended.{appends-refl, appends-two}
 use Rattle.plan.specs.declared.Error.{Error}
 use Rattle.steps.specs.declared.After.{After}
 use Rattle.steps.specs.declared.After.the-variants as after
@@ -27,7 +28,7 @@ use Rattle.steps.specs.declared.Closing.{Closing}
 use Rattle.steps.specs.declared.Quick.{Quick}
 use Rattle.steps.specs.declared.Quick.the-variants.{Goes, Jumps, Other}
 use Rattle.steps.specs.Quickly.{Quickly, goes-steps, jumps-steps, other-same}
-use Rattle.steps.specs.Stepped.{Given, ReadyWith, Stepped, Steps}
+use Rattle.steps.specs.Stepped.{Given, ReadyWith, Stepped, usedAfter, Steps}
 use Rattle.steps.specs.SteppedLaws.{same-code, same-refl}
 use Rattle.slices.specs.Sliced.{pastOf, At, Sliceable, Reached, Ended, Slices, Quickens}
 use Rattle.slices.specs.SlicedLaws.{sliceOf, pastFrame, at-given, reached-first, reached-end, reached-more, reached-on, reached-jump, reached-spent}
@@ -80,17 +81,17 @@ pub record Looping (image rows constants inner : List ℕ) (codes : ℕ) (first 
   pub lower : left ≤ begun
   pub sameState : Same state state′
   pub sameLive : Same live live′
-  pub sameStore : Same store store′
+  pub appends : Appends taken u store store′
 
 pub looping-first : (image rows constants inner : List ℕ) (codes : ℕ) {first : registers.Running} {handle code taken : ℕ} {state live store : List ℕ} (begun given : ℕ) → Sliceable (programIn image rows constants inner codes) first handle code taken state live store
     → Looping image rows constants inner codes first handle code taken begun given state live store first taken begun given state live store
-looping-first image rows constants inner codes {state = state} {live} {store} begun given b = record {
+looping-first image rows constants inner codes {taken = taken} {state} {live} {store} begun given b = record {
   began = b;
   reached = λ z m x a s. reached-first Paused x;
   lower = omega arith;
   sameState = same-refl state;
   sameLive = same-refl live;
-  sameStore = same-refl store;
+  appends = appends-refl taken store;
 }
 
 module _ {image rows constants inner : List ℕ} {codes : ℕ} {first : registers.Running} {handle code taken begun given : ℕ} {state live store : List ℕ} {g : registers.Running} {u left ticks : ℕ} {state′ live′ store′ : List ℕ}
@@ -103,7 +104,7 @@ module _ {image rows constants inner : List ℕ} {codes : ℕ} {first : register
   pub some-sliceable : Sliceable (programIn image rows constants inner codes) g handle code u state′ live′ store′
   some-sliceable =
       let b = i .began in
-      record { sizes = b .sizes; machine = some-reached .machine; at = some-reached .at; accepted = b .accepted; small = b .small; few = rw (i .sameStore .len) (b .few); block = i .sameState .len ∙ b .block }
+      record { sizes = b .sizes; machine = some-reached .machine; at = some-reached .at; accepted = b .accepted; small = b .small; few = rw (i .appends .len) (b .few); block = i .sameState .len ∙ b .block }
 
   pub opcode-there : (code < 4294967296) × (g .place < field rows code 1)
   opcode-there = (code-low some-sliceable, at-field image rows constants inner codes (some-reached .at))
@@ -142,46 +143,49 @@ module _ {image rows constants inner : List ℕ} {codes : ℕ} {first : register
           → Stepped (programIn image rows constants inner codes) z (x .machine) (pastFrame (x .at .frame)) handle code u o n state′ live′ store′ state″ live″ store″
       left-by {z} x a l = s .next z (x .machine) (pastFrame (x .at .frame)) (given-at (x .at) a l) (x .at .block) (x .at .uses)
 
+      appends-by : {u′ : ℕ} → usedAfter u n ≡ u′ → Appends taken u′ store store″
+      appends-by q = appends-two (i .appends) (subst (λ (w : ℕ). Appends u w store′ store″) q (s .appends))
+
       -- the loop goes on, or ends, with that
-      loops : {g′ : registers.Running} {u′ left′ ticks′ : ℕ} → left′ ≤ begun
+      loops : {g′ : registers.Running} {u′ left′ ticks′ : ℕ} → left′ ≤ begun → usedAfter u n ≡ u′
           → Whenever (programIn image rows constants inner codes) first handle code taken state live store
           (λ (z : Sizes) (m : M). Reached (programIn image rows constants inner codes) z given begun m handle code (sliceOf Paused g′ u′ left′ ticks′) (cells state″) (cells live″) (cells store″))
           → Looping image rows constants inner codes first handle code taken begun given state live store g′ u′ left′ ticks′ state″ live″ store″
-      loops l f = record {
+      loops l q f = record {
         began = i .began;
         reached = f;
         lower = l;
         sameState = same-on (i .sameState) (s .sameState);
         sameLive = same-on (i .sameLive) (s .sameLive);
-        sameStore = same-on (i .sameStore) (s .sameStore);
+        appends = appends-by q;
       }
 
-      ends : {r : Slice} (r′ : Slice) → r ≡ r′ → r′ .left ≤ begun
+      ends : {r : Slice} (r′ : Slice) → r ≡ r′ → r′ .left ≤ begun → usedAfter u n ≡ r′ .used
           → Whenever (programIn image rows constants inner codes) first handle code taken state live store
           (λ (z : Sizes) (m : M). Ended (programIn image rows constants inner codes) z given begun m handle code r′ (r′ .end) (cells state″) (cells live″) (cells store″))
           → Slices (programIn image rows constants inner codes) first handle code taken begun given r state live store state″ live″ store″
-      ends r′ w l f = rw w (record {
+      ends r′ w l q f = rw w (record {
         ends = f;
         lower = l;
         sameState = same-on (i .sameState) (s .sameState);
         sameLive = same-on (i .sameLive) (s .sameLive);
-        sameStore = same-on (i .sameStore) (s .sameStore);
+        appends = appends-by q;
       })
 
       module _ {g′ : registers.Running} {u′ : ℕ} (q : n ≡ after.On g′ u′) where
         pub loops-on : (left ≡ 0 → ⊥) → Looping image rows constants inner codes first handle code taken begun given state live store g′ u′ (left - 1) (ticks - 1) state″ live″ store″
-        loops-on ne = loops (omega (arith, i .lower)) (λ z m x a l. let y = i .reached z m x a l in reached-on y some Paused (rw q at (left-by y a l)) (omega arith))
+        loops-on ne = loops (omega (arith, i .lower)) (ap (usedAfter u) q) (λ z m x a l. let y = i .reached z m x a l in reached-on y some Paused (rw q at (left-by y a l)) (omega arith))
 
         pub ends-spent : {r : Slice} → left ≡ 0 → r ≡ sliceOf Spent g′ u′ left (ticks - 1) → Slices (programIn image rows constants inner codes) first handle code taken begun given r state live store state″ live″ store″
-        ends-spent none w = ends (sliceOf Spent g′ u′ left (ticks - 1)) w (i .lower) (λ z m x a l. let y = i .reached z m x a l in reached-spent y some Spent left (rw q at (left-by y a l)) none)
+        ends-spent none w = ends (sliceOf Spent g′ u′ left (ticks - 1)) w (i .lower) (ap (usedAfter u) q) (λ z m x a l. let y = i .reached z m x a l in reached-spent y some Spent left (rw q at (left-by y a l)) none)
 
       pub loops-jumped : {g′ : registers.Running} → n ≡ after.Jumped g′ → Looping image rows constants inner codes first handle code taken begun given state live store g′ u left (ticks - 1) state″ live″ store″
-      loops-jumped q = loops (i .lower) (λ z m x a l. let y = i .reached z m x a l in reached-jump y some Paused (rw q at (left-by y a l)))
+      loops-jumped q = loops (i .lower) (ap (usedAfter u) q) (λ z m x a l. let y = i .reached z m x a l in reached-jump y some Paused (rw q at (left-by y a l)))
 
       pub ends-throws : {g′ : registers.Running} {x : Error} {r : Slice} → n ≡ after.Throws g′ x → r ≡ sliceOf (Throws g′ x) g u left ticks → Slices (programIn image rows constants inner codes) first handle code taken begun given r state live store state″ live″ store″
       unfolding reached-end
       ends-throws {g′} {x} q w =
-          ends (sliceOf (Throws g′ x) g u left ticks) w (i .lower)
+          ends (sliceOf (Throws g′ x) g u left ticks) w (i .lower) (ap (usedAfter u) q)
           (λ z m k a l.
           let y = i .reached z m k a l in
           let d = rw q at (left-by y a l) in
@@ -192,7 +196,7 @@ module _ {image rows constants inner : List ℕ} {codes : ℕ} {first : register
       pub ends-refused : {k : ℕ} {r : Slice} → n ≡ after.Stops k → r ≡ sliceOf (Refused k) g u left ticks → Slices (programIn image rows constants inner codes) first handle code taken begun given r state live store state″ live″ store″
       unfolding reached-end
       ends-refused {k} q w =
-          ends (sliceOf (Refused k) g u left ticks) w (i .lower)
+          ends (sliceOf (Refused k) g u left ticks) w (i .lower) (ap (usedAfter u) q)
           (λ z m x a l.
           let y = i .reached z m x a l in
           let d = rw q at (left-by y a l) in
@@ -201,7 +205,7 @@ module _ {image rows constants inner : List ℕ} {codes : ℕ} {first : register
       pub ends-closes : {k : Closing} {r : Slice} → n ≡ after.Closing k → r ≡ sliceOf (Closes k (o .operand)) g u left ticks → Slices (programIn image rows constants inner codes) first handle code taken begun given r state live store state″ live″ store″
       unfolding reached-end
       ends-closes {k} q w =
-          ends (sliceOf (Closes k (o .operand)) g u left ticks) w (i .lower)
+          ends (sliceOf (Closes k (o .operand)) g u left ticks) w (i .lower) (ap (usedAfter u) q)
           (λ z m x a l.
           let y = i .reached z m x a l in
           let d = rw q at (left-by y a l) in
@@ -229,7 +233,7 @@ module _ {image rows constants inner : List ℕ} {codes : ℕ} {first : register
       lower = omega (arith, i .lower, k .lower);
       sameState = i .sameState;
       sameLive = same-on (i .sameLive) (k .sameLive);
-      sameStore = i .sameStore;
+      appends = i .appends;
     }
 
   pub ends-paused : {r : Slice} → ticks ≤ 0 → r ≡ sliceOf Paused g u left ticks → Slices (programIn image rows constants inner codes) first handle code taken begun given r state live store state′ live′ store′
@@ -238,7 +242,7 @@ module _ {image rows constants inner : List ℕ} {codes : ℕ} {first : register
     lower = i .lower;
     sameState = i .sameState;
     sameLive = i .sameLive;
-    sameStore = i .sameStore;
+    appends = i .appends;
   })
 
 -- ---- The loop of opcodes done at once, where it ends

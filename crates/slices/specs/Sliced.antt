@@ -14,7 +14,7 @@ use Rattle.machine.specs.Machine.{Frame, M, used}
 use Rattle.machine.specs.Opcodes.{Running, throws, takes, nextAction}
 use Rattle.machine.specs.Calls.{Sizes, stops, outcome, charge, run}
 use Rattle.moves.specs.declared.Running as registers
-use Rattle.plan.specs.Rest.{Same, Block}
+use Rattle.plan.specs.Rest.{Same, Appends, Block}
 use Rattle.plan.specs.Inside.{Inside, Threw}
 use Rattle.steps.specs.declared.Closing.{Closing}
 use Rattle.steps.specs.Stepped.{ClosingNumber}
@@ -81,7 +81,7 @@ pub record Slices (P : Program) (g : registers.Running) (handle code u left t : 
   pub lower : s .left ≤ left
   pub sameState : Same state state′
   pub sameLive : Same live live′
-  pub sameStore : Same store store′
+  pub appends : Appends u (s .used) store store′
 
 -- opcodes done at once have brought the run to where memory holds it now; state block and store are as they were
 pub record Quickens (P : Program) (g : registers.Running) (handle code u left t : ℕ) (s : Slice) (state live store live′ : List ℕ) : Type 0 where

@@ -24,6 +24,7 @@ use Rattle.moves.specs.Runs.{endOf}
 use Rattle.moves.specs.Objects.{Stored}
 use Rattle.moves.specs.declared.Running as registers
 use Rattle.plan.specs.Rest.{Block}
+use Rattle.plan.specs.Appended.{appends-refl}
 use Rattle.plan.specs.Inside.{DoesWhere, Does}
 use Rattle.plan.specs.declared.Error.{Error}
 use Rattle.plan.specs.declared.Next.{Next}
@@ -160,7 +161,7 @@ module _ (image rows constants inner : List ℕ) (codes : ℕ) {g : registers.Ru
       → (state : List ℕ) → Steps (programIn image rows constants inner codes) g handle code u (loadConst x) a state live store state live′ store′
   unfolding operandKind
   closure-steps {n = n} f q w v d r state =
-      makes-steps n state u (λ z m s y t. d .next z m s (y .inside) (y .accepted) t (y .closure) (named-by image rows constants inner codes y refl e f q w v)) (d .sameLive) (d .sameStore) r
+      makes-steps n state u (λ z m s y t. d .next z m s (y .inside) (y .accepted) t (y .closure) (named-by image rows constants inner codes y refl e f q w v)) (d .sameLive) (d .appends) r
 
   pub const-steps : {n : Next} {number : ℕ} → (c .kind ≡ 22 → ⊥) → number ≡ code
       → ((cs : List Code) → DoesWhere (λ (m : M) (r : Running). (number ≡ r .number) × (c ≡ getD (r .code .constants) x noConstant) × (c .kind ≡ 22 → ⊥)) (record { image = image; codes = cs }) 6 x g n live live′)
@@ -190,7 +191,7 @@ module _ {P : Program} {g : registers.Running} {handle code u : ℕ} {o : Op} {l
     pub list-made : {n : Made} → o .number ≡ 10 → ((P : Program) → m.Makes P 10 (o .operand) g u n live store live′ store′) → a ≡ afterMade n
         → Steps P g handle code u o a state live store state live′ store′
     list-made {n} e d r =
-        makes-steps n state u (λ z m s y t. rw e (d P .next z m s (y .inside) t)) (d P .sameLive) (d P .sameStore) r
+        makes-steps n state u (λ z m s y t. rw e (d P .next z m s (y .inside) t)) (d P .sameLive) (d P .appends) r
 
 pub global-made : (image rows constants inner : List ℕ) (codes : ℕ) {g : registers.Running} {handle code u : ℕ} {o : Op} {n : Next} {a : After} {state state′ live store : List ℕ} {name : ℕ} → o .number ≡ 8
     → name ≡ getD (bodyAt image rows code .globals) (o .operand) 0 → ((P : Program) → SetsGlobal P g (o .operand) name n live state state′) → a ≡ afterNext n u
@@ -207,7 +208,7 @@ module _ {P : Program} {g : registers.Running} {handle code u : ℕ} {o : Op} {f
     next = λ z m r y b q. (numbered (o .number) (Closes k) e w, record { stateIs = refl; liveIs = refl; storeIs = refl });
     sameState = same-refl state;
     sameLive = same-refl live;
-    sameStore = same-refl store;
+    appends = appends-refl u store;
   }
 
   pub left-out-steps : Chosen f (o .number) → f ≡ LeftOut → Steps P g handle code u o (Stops 3) state live store state live store
@@ -217,7 +218,7 @@ module _ {P : Program} {g : registers.Running} {handle code u : ℕ} {o : Op} {f
         (ap (λ (t : Taken). outcome P z t m) (next-is y ∙ numbered (o .number) LeftOut e w P m r (o .operand)), record { stateIs = refl; liveIs = refl; storeIs = refl });
     sameState = same-refl state;
     sameLive = same-refl live;
-    sameStore = same-refl store;
+    appends = appends-refl u store;
   }
 
 module _ {P : Program} {g : registers.Running} {handle code u : ℕ} {o : Op} {n : Next} {a : After} {state live store live′ : List ℕ} where

@@ -14,7 +14,7 @@ use Rattle.machine.specs.Machine.{Frame, M, used}
 use Rattle.machine.specs.Opcodes.{Running, Action, throws, takes, refuses, opcodeAction, nextAction}
 use Rattle.machine.specs.Calls.{Sizes, Outcome, does, stops, outcome, Pace, free, counted, paceOf}
 use Rattle.moves.specs.declared.Running as registers
-use Rattle.plan.specs.Rest.{Same, Block}
+use Rattle.plan.specs.Rest.{Same, Appends, Block}
 use Rattle.plan.specs.Inside.{Inside, Threw, Nexts}
 use Rattle.plan.specs.declared.Next.{Next}
 use Rattle.plan.specs.declared.Next.the-variants as next
@@ -133,11 +133,19 @@ Stepped P z m r handle code u o (Stops n) state live store state′ live′ stor
     (outcome P z (nextAction P m (m .frames)) m ≡ stops n) × Untouched state live store state′ live′ store′
 Stepped P z m r handle code u o (Closing k) state live store state′ live′ store′ = ClosingNumber k (o .number) × Untouched state live store state′ live′ store′
 
+-- how many cells of the store are used then
+abbrev pub usedAfter : ℕ → After → ℕ
+usedAfter u (On g w) = w
+usedAfter u (Jumped g) = u
+usedAfter u (Throws g x) = u
+usedAfter u (Stops n) = u
+usedAfter u (Closing k) = u
+
 pub record Steps (P : Program) (g : registers.Running) (handle code u : ℕ) (o : Op) (n : After) (state live store state′ live′ store′ : List ℕ) : Type 0 where
   pub next : (z : Sizes) (m : M) (r : Running) → Given P z m r g handle code o (cells live) (cells store) → Block m (cells state) → u ≡ used (m .store) → Stepped P z m r handle code u o n state live store state′ live′ store′
   pub sameState : Same state state′
   pub sameLive : Same live live′
-  pub sameStore : Same store store′
+  pub appends : Appends u (usedAfter u n) store store′
 
 -- the same of an opcode that changes nothing but its frame
 pub record StaysOn (P : Program) (g : registers.Running) (handle code : ℕ) (o : Op) (n : Next) (state live store live′ : List ℕ) : Type 0 where

@@ -18,14 +18,15 @@ use Rattle.machine.specs.FormLaws.{step-fits}
 use Rattle.moves.specs.Runs.{Runs}
 use Rattle.moves.specs.Objects.{Stored}
 use Rattle.moves.specs.declared.Running as registers
-use Rattle.plan.specs.Rest.{Same, Block}
+use Rattle.plan.specs.Rest.{Same, Appends, Block}
+use Rattle.plan.specs.Appended.{appends-refl, appends-same}
 use Rattle.plan.specs.Inside.{Inside, Went, left, Nexts, Does}
 use Rattle.plan.specs.declared.Next.{Next}
 use Rattle.plan.specs.declared.Next.the-variants.{Goes, Jumps, Throws, Stops}
 use Rattle.makes.specs.declared.Made.{Made}
 use Rattle.makes.specs.declared.Made.the-variants.{On, Refused}
-use Rattle.makes.specs.Made.{Mades, Sets}
-use Rattle.steps.specs.Stepped.{Given, SteppedOn, Stepped, Steps, StaysOn, afterNext, afterMade}
+use Rattle.makes.specs.Made.{Mades, usedBy, Sets}
+use Rattle.steps.specs.Stepped.{Given, SteppedOn, Stepped, usedAfter, Steps, StaysOn, afterNext, afterMade}
 use Rattle.steps.specs.declared.After.{After}
 
 -- the running frame with other parts
@@ -133,6 +134,16 @@ module _ {P : Program} {z : Sizes} {m : M} {r : Running} {g : registers.Running}
       )
   nexts-on (Stops k) state w s b q = (ap (λ (t : Taken). outcome P z t m) (next-is y) ∙ w .0, record { stateIs = refl; liveIs = w .1; storeIs = refl })
 
+-- no more of the store is used
+used-next : (n : Next) (u : ℕ) → usedAfter u (afterNext n u) ≡ u
+used-next (Goes g) u = refl
+used-next (Jumps g) u = refl
+used-next (Throws g x) u = refl
+used-next (Stops k) u = refl
+
+appends-next : (n : Next) (u : ℕ) (store : List ℕ) → Appends u (usedAfter u (afterNext n u)) store store
+appends-next n u store = rw (used-next n u) (appends-refl u store)
+
 -- an opcode that changes nothing but its frame
 pub stays-steps : {P : Program} {g : registers.Running} {handle code : ℕ} {o : Op} {n : Next} {a : After} (state : List ℕ) {live store live′ : List ℕ} (u : ℕ) → StaysOn P g handle code o n state live store live′ → a ≡ afterNext n u
     → Steps P g handle code u o a state live store state live′ store
@@ -140,7 +151,7 @@ stays-steps {n = n} state {live} {store} u s e = rw e (record {
   next = λ z m r y b q. nexts-on live store y n state (s .next z m r y b) (s .same) b q;
   sameState = same-refl state;
   sameLive = s .same;
-  sameStore = same-refl store;
+  appends = appends-next n u store;
 })
 
 -- a family that is lent no store and no state block
@@ -148,15 +159,19 @@ pub does-stays : {P : Program} {g : registers.Running} (handle code : ℕ) {o : 
 does-stays handle code state store d = record { next = λ z m r y b. d .next z m r _ tt (y .inside); same = d .same }
 
 -- ---- Opcodes that make an object or set a global
+used-made : (n : Made) (u : ℕ) → usedAfter u (afterMade n) ≡ usedBy u n
+used-made (On g w) u = refl
+used-made (Refused k) u = refl
+
 pub makes-steps : {P : Program} {g : registers.Running} {handle code : ℕ} {o : Op} (n : Made) {a : After} (state : List ℕ) {live store live′ store′ : List ℕ} (u : ℕ)
     → ((z : Sizes) (m : M) (r : Running) → Given P z m r g handle code o (cells live) (cells store) → u ≡ used (m .store) → Mades P z (o .number) (o .operand) m r n live store live′ store′)
-    → Same live live′ → Same store store′ → a ≡ afterMade n → Steps P g handle code u o a state live store state live′ store′
+    → Same live live′ → Appends u (usedBy u n) store store′ → a ≡ afterMade n → Steps P g handle code u o a state live store state live′ store′
 unfolding stepped-inside paceOf
 makes-steps {P} {g} {handle} {code} {o} n state {live} {store} {live′} {store′} u h s t e = rw e (record {
   next = λ z m r y b q. by n z m r y b (h z m r y q);
   sameState = same-refl state;
   sameLive = s;
-  sameStore = t;
+  appends = rw (used-made n u) t;
 })
   where
     by : (n : Made) (z : Sizes) (m : M) (r : Running) → Given P z m r g handle code o (cells live) (cells store) → Block m (cells state) → Mades P z (o .number) (o .operand) m r n live store live′ store′
@@ -169,7 +184,7 @@ makes-steps {P} {g} {handle} {code} {o} n state {live} {store} {live′} {store�
           frame = moved r (d .place) (d .locals) (d .stack) (d .handlers);
           is = ap (λ (k : Taken). outcome P z k m) (next-is y) ∙ d .is;
           paces = refl;
-          inside = stepped-inside y (d .place) (d .locals) (d .stack) (d .handlers) (d .object ∷ []) (d .is) refl refl refl (d .runs) (d .stored) (same-cells s) (same-cells t);
+          inside = stepped-inside y (d .place) (d .locals) (d .stack) (d .handlers) (d .object ∷ []) (d .is) refl refl refl (d .runs) (d .stored) (same-cells s) (same-cells (appends-same t));
           at = refl;
           below = refl;
           closure = y .closure;
@@ -187,7 +202,7 @@ sets-steps {P} {g} {handle} {code} {o} n {state = state} {state′} live store u
   next = λ z m r y b q. by n z m r y q (h z m r y b);
   sameState = s;
   sameLive = same-refl live;
-  sameStore = same-refl store;
+  appends = appends-next n u store;
 })
   where
     by : (n : Next) (z : Sizes) (m : M) (r : Running) → Given P z m r g handle code o (cells live) (cells store) → u ≡ used (m .store) → Sets P z (o .operand) m r n live state state′

@@ -1,5 +1,5 @@
 -- One law for each need and return of a start and of an answer as calls.
-use mathlib.Core.Path.{_≡_, refl, sym, ap, _∙_}
+use mathlib.Core.Path.{_≡_, refl, sym, ap, subst, _∙_}
 use mathlib.Core.List.{List, [], _++_}
 use mathlib.Core.Bool.{Bool, true, false}
 use Prim.Native.Nat.{ℕ}
@@ -18,9 +18,10 @@ use Rattle.fuel.specs.declared.Loan.the-variants as loan
 use Rattle.layout.specs.declared.Read.{Read}
 use Rattle.layout.specs.declared.Read.the-variants as reads
 use Rattle.machine.specs.Values.{Program}
+use Rattle.machine.specs.Machine.{used}
 use Rattle.machine.specs.Calls.{Outcome, does, stops, World, Trace, noFuel, stepsOf, answerOf, fuelAfter, worldAfter}
 use Rattle.memory.specs.Layout.{Holds}
-use Rattle.form.specs.Entry.{viewOf, Enters}
+use Rattle.form.specs.Entry.{viewOf, storeOf, Enters}
 use Rattle.requests.specs.Sent.{Sent, starting, answering, sentOutcome, sentTrace}
 use Rattle.requests.specs.SentLaws.{Lent, doneCode, doneFuel, sent-stops, sent-does}
 use Rattle.requests.specs.Asked.{Leaves, SentWorld}
@@ -79,6 +80,9 @@ module _ (image state live store : List ℕ) {x : Read} {rows constants inner : 
               behindStore = l .behindStore;
               restLive = l .sent .sameLive .rest;
               restStore = l .sent .sameStore .rest;
+              freeStore =
+                  subst (λ (k : World). drop (used (k .machine .store)) (storeOf store′) ≡ drop (used (k .machine .store)) (storeOf store)) (sym (t .world))
+                  (ap (drop (used (m .store))) (sym (store-cells store′)) ∙ v .2 ∙ ap (drop (used (m .store))) (store-cells store));
               refuses = λ none. let z : _≡_ {A = ℕ} 0 1 = cc (t .steps) in absurd (omega arith);
             }
         by (stops number) i v =
@@ -91,6 +95,7 @@ module _ (image state live store : List ℕ) {x : Read} {rows constants inner : 
               behindStore = l .behindStore;
               restLive = l .sent .sameLive .rest;
               restStore = l .sent .sameStore .rest;
+              freeStore = ap (λ (x : List ℕ). drop (used (worldAfter trace .machine .store)) (storeOf x)) (whole 1048576 store store′ (v .3) (l .behindStore));
               refuses = λ none. (v .1, whole 65536 live live′ (v .2) (l .behindLive), whole 1048576 store store′ (v .3) (l .behindStore));
             }
 

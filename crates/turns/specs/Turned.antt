@@ -7,13 +7,14 @@ use Rattle.cells.specs.Cells.{cells, rest}
 use Rattle.cells.specs.declared.Cell.{Cell}
 use Rattle.fuel.specs.Loans.{read, write}
 use Rattle.image.specs.Records.{Answer, refused, accepted}
+use Rattle.machine.specs.Machine.{used}
 use Rattle.machine.specs.Calls.{Sizes, noFuel, Trace, stepsOf, answerOf, fuelAfter, worldAfter}
 use Rattle.memory.specs.Layout.{Holds}
 use Rattle.form.specs.Entry.{Entered, entry, liveOf, storeOf}
 use Rattle.requests.specs.Sent.{Sent, starting, answering, sentTrace}
 use Rattle.loans.specs.Loans.{frontLive, frontStore, Fueled, fueled, sizesOf}
 
--- what is entered: its answer and memory are the definition's, bytes behind what is used and behind the last whole cell do not change, and one that is refused leaves every byte
+-- what is entered: its answer and memory are the definition's, cells behind the store's objects, bytes behind what is used and behind the last whole cell do not change, and one that is refused leaves every byte
 pub record SentDone (t : Trace) (r : ℕ) (state live store state′ live′ store′ : List ℕ) : Type 0 where
   pub answers : r ≡ answerOf t
   pub holds : Holds (worldAfter t) (cells state′) (liveOf live′) (storeOf store′)
@@ -22,6 +23,7 @@ pub record SentDone (t : Trace) (r : ℕ) (state live store state′ live′ sto
   pub behindStore : drop 1048576 store′ ≡ drop 1048576 store
   pub restLive : rest (frontLive live′) ≡ rest (frontLive live)
   pub restStore : rest (frontStore store′) ≡ rest (frontStore store)
+  pub freeStore : drop (used (worldAfter t .machine .store)) (storeOf store′) ≡ drop (used (worldAfter t .machine .store)) (storeOf store)
   pub refuses : stepsOf t ≡ [] → (state′ ≡ state) × (live′ ≡ live) × (store′ ≡ store)
 
 -- ---- A start

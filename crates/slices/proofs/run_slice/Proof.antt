@@ -53,7 +53,7 @@ run-slice-spec =
     (λ c κs. search needs)
     (λ c. returns c .sameState .len)
     (λ c. returns c .sameLive .len)
-    (λ c. returns c .sameStore .len)
+    (λ c. returns c .appends .len)
     returns
     (λ c κs. opcode-there (loops-quick (c .before .before .before .before .before .before .before .before .before .loop .inv) (c .before .before .before .before .run-quick .ensures)))
     (λ c κs. place-low (loops-quick (c .before .before .before .before .before .before .before .before .before .before .before .before .before .loop .inv) (c .before .before .before .before .before .before .before .before .run-quick .ensures)))
@@ -63,7 +63,7 @@ run-slice-spec =
     (λ c κs. search needs)
     (λ c. returns-2 c .sameState .len)
     (λ c. returns-2 c .sameLive .len)
-    (λ c. returns-2 c .sameStore .len)
+    (λ c. returns-2 c .appends .len)
     returns-2
     (λ c. search needs)
     loop-less
@@ -76,19 +76,19 @@ run-slice-spec =
     (λ c κs. search needs)
     (λ c. returns-3 c .sameState .len)
     (λ c. returns-3 c .sameLive .len)
-    (λ c. returns-3 c .sameStore .len)
+    (λ c. returns-3 c .appends .len)
     returns-3
     (λ c. search needs)
     (λ c κs. search needs)
     (λ c. returns-4 c .sameState .len)
     (λ c. returns-4 c .sameLive .len)
-    (λ c. returns-4 c .sameStore .len)
+    (λ c. returns-4 c .appends .len)
     returns-4
     (λ c. search needs)
     (λ c κs. search needs)
     (λ c. returns-5 c .sameState .len)
     (λ c. returns-5 c .sameLive .len)
-    (λ c. returns-5 c .sameStore .len)
+    (λ c. returns-5 c .appends .len)
     returns-5
     (λ c κs. search needs)
     (λ c. search needs)
