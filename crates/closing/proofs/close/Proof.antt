@@ -7,9 +7,6 @@ use Rattle.closing.proofs.close.Tie as tie
 call-requires : tie.Need-call-requires
 call-requires c κs = search closable-call
 
-tail-call-requires : tie.Need-tail-call-requires
-tail-call-requires c κs = search closable-tail
-
 returns : tie.Need-returns
 returns c = search closes-call
 
@@ -19,6 +16,7 @@ returns-2 c = search closes-return
 returns-3 : tie.Need-returns-3
 returns-3 c = search closes-tail
 
+-- what `tail_call` requires stands in its place below: a wrong program that calls another function there has no need of that name, and is judged all the same
 pub close-spec : {M : Type 1} → statement M
 close-spec =
     tie.close
@@ -28,7 +26,7 @@ close-spec =
     (λ c. search needs)
     (λ c κs. search needs)
     (λ c. search needs)
-    tail-call-requires
+    (λ c κs. search closable-tail)
     (λ c. search needs)
     (λ c. search needs)
     (λ c. search needs)
