@@ -42,7 +42,7 @@ use Rattle.turns.specs.Turned.{SentDone, AnswerDone, AnswerBy}
 use Rattle.asks.specs.Asks.{cellOf, answer as answerAsked, given, Leaves, Asked, loading, loadAnswer, LoadLeft, Loaded}
 use Rattle.asks.specs.declared.Got.{Got}
 use Rattle.asks.specs.Ready.{ready}
-use Rattle.demands.specs.Called.{Memory, sizes, entered, Exported, lucia-load, lucia-start, lucia-run, lucia-answer, lucia-clear, lucia-text, lucia-bytes, lucia-set-global, lucia-get-global, lucia-set-builtin, lucia-get-builtin, Answered, Allows, callFor, asking, withLoan, fuelLent, answerBy, answerFor, refusalOf, Refuses, Does, DoesAs}
+use Rattle.demands.specs.Called.{Memory, sizes, entered, Exported, lucia-load, lucia-start, lucia-run, lucia-answer, lucia-clear, lucia-text, lucia-bytes, lucia-set-global, lucia-get-global, lucia-set-builtin, lucia-get-builtin, Answered, Allows, callFor, asking, sending, withLoan, fuelLent, answerBy, answerFor, refusalOf, Refuses, Does, DoesAs, NoLoad}
 
 -- ---- What the host sends with a start or an answer
 -- a request is out of turn where what was sent is
@@ -69,13 +69,14 @@ sent-call P z w fuel s q h f = by (inTurn s w) refl
     by false e = rw (late P w fuel s q h e, f) refl
 
 -- where none was, it is refused with its number or, out of turn, with 11
-sent-none : (P : Program) (z : Sizes) (w : World) (fuel : Fuel) (s : Sent) (k : ℕ) → requestOf fuel s ≡ refused k → (sentTrace P z fuel s w ≡ ends k nothing fuel w) ⊎ (sentTrace P z fuel s w ≡ ends 11 nothing fuel w)
+sent-none : (P : Program) (z : Sizes) (w : World) (fuel : Fuel) (s : Sent) (k : ℕ) → requestOf fuel s ≡ refused k
+    → sentTrace P z fuel s w ≡ ends (if? (inTurn s w) k 11) nothing fuel w
 unfolding sentTrace tracing
 sent-none P z w fuel s k h = by (inTurn s w)
   where
-    by : (b : Bool) → (if? b (tracing P z fuel w (requestOf fuel s)) (ends 11 nothing fuel w) ≡ ends k nothing fuel w) ⊎ (if? b (tracing P z fuel w (requestOf fuel s)) (ends 11 nothing fuel w) ≡ ends 11 nothing fuel w)
-    by true = inl (ap (tracing P z fuel w) h)
-    by false = inr refl
+    by : (b : Bool) → if? b (tracing P z fuel w (requestOf fuel s)) (ends 11 nothing fuel w) ≡ ends (if? b k 11) nothing fuel w
+    by true = ap (tracing P z fuel w) h
+    by false = refl
 
 -- the fuel that a request brings is that of the loan; a start brings none
 start-fuel : (f : Cell) (args : List ℕ) (q : Request) → requestOf noFuel (starting f args) ≡ accepted q → fuelOf q ≡ noFuel
@@ -202,11 +203,6 @@ abbrev pub worldBy : Program → Sizes → Answer Call → World → World
 worldBy P z (accepted q) w = worldAfter (callOf P z q w)
 worldBy P z (refused k) w = w
 
--- the call, if it is one of the machine's, is no accepted load
-abbrev pub NoLoad : Sizes → Answer Call → Type 0
-NoLoad z (accepted q) = RefusedLoad z q
-NoLoad z (refused k) = Unit {0}
-
 -- where memory m holds the world w: what is claimed of a call that is q for the machine, and what the next one finds
 pub record Called (image : List ℕ) (P : Program) (w : World) (c : Exported) (q : Answer Call) (m : Memory) (r : Answered c) (n : Memory) : Type 0 where
   pub does : DoesAs P (sizes m) w c q m r n
@@ -241,7 +237,7 @@ module _ {image : List ℕ} {P : Program} (parsed : parse (P .image) ≡ accepte
     stays : (c : Exported) (q : Answer Call) (r : Answered c) (n : Memory) → n ≡ m → worldBy P (sizes m) q w ≡ w → DoesAs P (sizes m) w c q m r n → Called image P w c q m r n
     stays c q r n e k d = record { does = d; next = rw (e, k) found; sizes = ap (λ (x : Memory). sizes x) e }
 
-    none : (c : Exported) (k : ℕ) (r : Answered c) (n : Memory) → (r ≡ refusalOf c k) ⊎ (r ≡ refusalOf c 11) → (n .state ≡ m .state) × (n .live ≡ m .live) × (n .store ≡ m .store) → Called image P w c (refused k) m r n
+    none : (c : Exported) (k : ℕ) (r : Answered c) (n : Memory) → r ≡ refusalOf c k → (n .state ≡ m .state) × (n .live ≡ m .live) × (n .store ≡ m .store) → Called image P w c (refused k) m r n
     none c k r n a h = let e = same-memory m n h in stays c (refused k) r n e refl (record { answers = a; refuses = e })
 
     -- ---- Requests that run nothing
@@ -282,14 +278,14 @@ module _ {image : List ℕ} {P : Program} (parsed : parse (P .image) ≡ accepte
       sends = sentTrace P (sizes m) fuel s w
 
       sent-called : ((q : Request) → requestOf fuel s ≡ accepted q → fuelOf q ≡ fuel) → a ≡ answerFor c sends → (stepsOf sends ≡ [] → write (fuelLent c) (fuelAfter sends) ≡ fuelLent c)
-          → SentDone sends r (m .state) (m .live) (m .store) (n .state) (n .live) (n .store) → Called image P w c (asking (requestOf fuel s)) m a n
+          → SentDone sends r (m .state) (m .live) (m .store) (n .state) (n .live) (n .store) → Called image P w c (asking (inTurn s w) (requestOf fuel s)) m a n
       unfolding stepsOf givenOf answerOf
       sent-called brings answers spares d = by (requestOf fuel s) refl
         where
           refusal : (k : ℕ) → sends ≡ ends k nothing fuel w → a ≡ refusalOf c k
           refusal k e = answers ∙ nothing-answered c sends (ap stepsOf e, ap givenOf e) (spares (ap stepsOf e)) ∙ ap (λ (t : Trace). refusalOf c (answerOf t)) e
 
-          by : (x : Answer Request) → requestOf fuel s ≡ x → Called image P w c (asking x) m a n
+          by : (x : Answer Request) → requestOf fuel s ≡ x → Called image P w c (asking (inTurn s w) x) m a n
           by (accepted q) h =
               let e = sent-call P (sizes m) w fuel s q h (brings q h) in
               let k : SentDone (goes-as (asks q)) r (m .state) (m .live) (m .store) (n .state) (n .live) (n .store) = rw e at d in
@@ -300,16 +296,18 @@ module _ {image : List ℕ} {P : Program} (parsed : parse (P .image) ≡ accepte
                 next = after (asks q) tt n (k .lengths) (k .holds);
                 sizes = same-sizes m n (k .lengths);
               }
-          by (refused k) h = ⊎-elim (λ e. none c k a n (inl (refusal k e)) (d .refuses (ap stepsOf e))) (λ e. none c k a n (inr (refusal 11 e)) (d .refuses (ap stepsOf e))) (sent-none P (sizes m) w fuel s k h)
+          by (refused k) h =
+              let e = sent-none P (sizes m) w fuel s k h in
+              none c (if? (inTurn s w) k 11) a n (refusal (if? (inTurn s w) k 11) e) (d .refuses (ap stepsOf e))
 
-    start-called : (low high : ℕ) (args : List ℕ) (r : ℕ) (n : Memory) → Allows image (lucia-start low high args) m r n → Called image P w (lucia-start low high args) (callFor (lucia-start low high args)) m r n
+    start-called : (low high : ℕ) (args : List ℕ) (r : ℕ) (n : Memory) → Allows image (lucia-start low high args) m r n → Called image P w (lucia-start low high args) (callFor w (lucia-start low high args)) m r n
     start-called low high args r n a =
         let s : Sent = starting (cellOf low high) args in
         let d : SentDone (sentTrace P (sizes m) noFuel s w) r (m .state) (m .live) (m .store) (n .state) (n .live) (n .store) = rw found at (a .does) in
         sent-called (lucia-start low high args) s noFuel r n r (start-fuel (cellOf low high) args) (d .answers) (λ _. no-loan [] _ refl) d
 
     answer-called : (fuel : List ℕ) (kind word low high : ℕ) (args handlers : List ℕ) (r : ℕ × List ℕ) (n : Memory) → Allows image (lucia-answer fuel kind word low high args handlers) m r n
-        → Called image P w (lucia-answer fuel kind word low high args handlers) (callFor (lucia-answer fuel kind word low high args handlers)) m r n
+        → Called image P w (lucia-answer fuel kind word low high args handlers) (callFor w (lucia-answer fuel kind word low high args handlers)) m r n
     unfolding withFuel
     answer-called fuel kind word low high args handlers r n a = by (read fuel) (a .does)
       where
@@ -320,15 +318,15 @@ module _ {image : List ℕ} {P : Program} (parsed : parse (P .image) ≡ accepte
         s = answering kind word (cellOf low high) args handlers
 
         by : (l : Loan) → AnswerBy (sizes m) s (fueled l (entered image m)) (r .0) (m .state) (m .live) (m .store) fuel (n .state) (n .live) (n .store) (r .1)
-            → Called image P w c (withLoan (λ (f : Fuel). asking (requestOf f s)) l) m r n
+            → Called image P w c (withLoan (sending w s) l) m r n
         by (Held f) a =
             let d : AnswerDone (sentTrace P (sizes m) f s w) (r .0) (m .state) (m .live) (m .store) fuel (n .state) (n .live) (n .store) (r .1) = rw found at a in
             sent-called c s f r n (r .0) (answer-fuel f kind word (cellOf low high) args handlers)
             (λ j. (d .sent .answers j, d .charges j)) (λ e. sym (d .charges) ∙ d .spares e) (d .sent)
-        by (Refused k) a = none c k r n (inl (λ j. (a .0 j, a .4 j))) (a .1, a .2, a .3)
+        by (Refused k) a = none c k r n (λ j. (a .0 j, a .4 j)) (a .1, a .2, a .3)
 
     -- ---- A run
-    run-called : (fuel : List ℕ) (ticks : ℕ) (r : Ran × List ℕ) (n : Memory) → Allows image (lucia-run fuel ticks) m r n → Called image P w (lucia-run fuel ticks) (callFor (lucia-run fuel ticks)) m r n
+    run-called : (fuel : List ℕ) (ticks : ℕ) (r : Ran × List ℕ) (n : Memory) → Allows image (lucia-run fuel ticks) m r n → Called image P w (lucia-run fuel ticks) (callFor w (lucia-run fuel ticks)) m r n
     unfolding withFuel stepsOf givenOf fuelAfter
     run-called fuel ticks r n a = by (read fuel) refl (a .does)
       where
@@ -344,10 +342,10 @@ module _ {image : List ℕ} {P : Program} (parsed : parse (P .image) ≡ accepte
               next = after (runs ticks f) tt n (d .lengths) (d .holds);
               sizes = same-sizes m n (d .lengths);
             }
-        by (Refused k) q a = none (lucia-run fuel ticks) k r n (inl (λ j. (a .0 j, a .4 j))) (a .1, a .2, a .3)
+        by (Refused k) q a = none (lucia-run fuel ticks) k r n (λ j. (a .0 j, a .4 j)) (a .1, a .2, a .3)
 
     -- ---- Every call
-    pub called : (c : Exported) (r : Answered c) (n : Memory) → NoLoad (sizes m) (callFor c) → Allows image c m r n → Called image P w c (callFor c) m r n
+    pub called : (c : Exported) (r : Answered c) (n : Memory) → NoLoad (sizes m) (callFor w c) → Allows image c m r n → Called image P w c (callFor w c) m r n
     unfolding answerAsked given requestAction endOf requestWorld worldAfter
     called (lucia-load own) r n l a = load-called own r n l (a .0) (a .1)
     called (lucia-start low high args) r n l a = start-called low high args r n a

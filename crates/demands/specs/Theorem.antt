@@ -1,6 +1,6 @@
 -- Demand 3 holds of the exported functions, over any list of calls and any memory that their contracts allow one after the other.
 use mathlib.Core.Path.{_≡_, refl, sym, ap, _∙_}
-use mathlib.Core.List.{List, [], _∷_, _++_, append-assoc, append-nil}
+use mathlib.Core.List.{List, [], _∷_, _++_}
 use mathlib.Core.Logic.{⊎-elim}
 use mathlib.Core.Bool.{Bool, true, false}
 use Prim.Native.Nat.{ℕ, _+_, _-_}
@@ -14,8 +14,8 @@ use Rattle.image.specs.Records.{if?, Answer, refused, accepted}
 use Rattle.image.specs.Image.{parse}
 use Rattle.machine.specs.Values.{Program}
 use Rattle.machine.specs.Machine.{used}
-use Rattle.machine.specs.Calls.{Sizes, World, Call, load, loaded, loadedMachine, callsOf}
-use Rattle.machine.specs.Demand.{All, RefusedLoad}
+use Rattle.machine.specs.Calls.{Sizes, World, worldAfter, Call, callOf, Lent, load, loaded, loadedMachine, callsOf}
+use Rattle.machine.specs.Demand.{NoLoads}
 use Rattle.machine.specs.Theorem.{demand3}
 use Rattle.machine.specs.Form.{WorldFits}
 use Rattle.machine.specs.FormLaws.{loaded-as, load-form}
@@ -27,58 +27,36 @@ use Rattle.form.specs.Entry.{liveOf, storeOf}
 use Rattle.asks.specs.Asks.{loading, loadAnswer, Loads}
 use Rattle.asks.specs.Ready.{ready}
 use Rattle.asks.specs.declared.Got.{Got}
-use Rattle.demands.specs.Called.{Memory, sizes, worldIn, Exported, lucia-load, Allows, Session, done, call, callFor, before, standsFor, After, Each, Demanded}
-use Rattle.demands.specs.CalledLaws.{Finds, worldBy, NoLoad, same-sizes, finds, called}
+use Rattle.demands.specs.Called.{Memory, memory, sizes, worldIn, callFor, standsFor, NoLoad, Led, loads, calls, longer, After, Each, Demanded}
+use Rattle.demands.specs.Longer.{longer-holds, longer-fits}
+use Rattle.demands.specs.CalledLaws.{Finds, worldBy, same-sizes, finds, called}
 
-module _ (P : Program) (z : Sizes) where
-  calls-before : (x : Answer Call) (qs : List Call) (w : World) → callsOf P z (before x qs) w ≡ callsOf P z qs (worldBy P z x w)
+-- the world after one call more
+module _ (P : Program) where
+  calls-append : (xs ys : List Lent) (w : World) → callsOf P (xs ++ ys) w ≡ callsOf P ys (callsOf P xs w)
   unfolding callsOf
-  calls-before (accepted q) qs w = refl
-  calls-before (refused k) qs w = refl
+  calls-append [] ys w = refl
+  calls-append (x ∷ xs) ys w = calls-append xs ys (worldAfter (callOf P (x .sizes) (x .call) w))
 
-  -- the world after one call more
-  calls-next : (past : List Exported) (c : Exported) (w : World) → callsOf P z (standsFor (past ++ (c ∷ []))) w ≡ worldBy P z (callFor c) (callsOf P z (standsFor past) w)
-  unfolding standsFor callsOf
-  calls-next [] c w = calls-before (callFor c) [] w
-  calls-next (x ∷ past) c w =
-      calls-before (callFor x) (standsFor (past ++ (c ∷ []))) w ∙ calls-next past c (worldBy P z (callFor x) w) ∙ ap (worldBy P z (callFor c)) (sym (calls-before (callFor x) (standsFor past) w))
+  calls-one : (z : Sizes) (x : Answer Call) (w : World) → callsOf P (standsFor z x) w ≡ worldBy P z x w
+  unfolding callsOf
+  calls-one z (accepted q) w = refl
+  calls-one z (refused k) w = refl
 
 -- no accepted load among one call more
-module _ (z : Sizes) where
-  loads-first : (x : Answer Call) (qs : List Call) → All (RefusedLoad z) (before x qs) → NoLoad z x × All (RefusedLoad z) qs
-  loads-first (accepted q) qs h = h
-  loads-first (refused k) qs h = (tt, h)
+loads-append : (xs ys : List Lent) → NoLoads xs → NoLoads ys → NoLoads (xs ++ ys)
+loads-append [] ys h k = k
+loads-append (x ∷ xs) ys h k = (h .0, loads-append xs ys (h .1) k)
 
-  loads-before : (x : Answer Call) (qs : List Call) → NoLoad z x → All (RefusedLoad z) qs → All (RefusedLoad z) (before x qs)
-  loads-before (accepted q) qs l h = (l, h)
-  loads-before (refused k) qs l h = h
-
-  loads-next : (past : List Exported) (c : Exported) → All (RefusedLoad z) (standsFor past) → NoLoad z (callFor c) → All (RefusedLoad z) (standsFor (past ++ (c ∷ [])))
-  unfolding standsFor
-  loads-next [] c h l = loads-before (callFor c) [] l tt
-  loads-next (x ∷ past) c h l = let k = loads-first (callFor x) (standsFor past) h in loads-before (callFor x) (standsFor (past ++ (c ∷ []))) (k .0) (loads-next past c (k .1) l)
+loads-one : (z : Sizes) (x : Answer Call) → NoLoad z x → NoLoads (standsFor z x)
+loads-one z (accepted q) l = (l, tt)
+loads-one z (refused k) l = tt
 
 -- the world that a call finds is the one that is read off memory
 found-world : (image : List ℕ) (P : Program) (m : Memory) (w : World) → Finds image P m w → worldIn m ≡ w
 found-world image P m w f =
     let k = ready image (m .state) (m .live) (m .store) (record { program = P; world = w }) f in
     exact-out P w (cells (m .state)) (liveOf (m .live)) (storeOf (m .store)) (k .holds) (k .fits) .3
-
-module _ {image : List ℕ} {P : Program} (parsed : parse (P .image) ≡ accepted (P .codes)) (same : P .image ≡ image) (z : Sizes) where
-  after : (past : List Exported) (m : Memory) → Finds image P m (callsOf P z (standsFor past) (loaded P)) → All (RefusedLoad z) (standsFor past) → After image P z past m
-  after past m f h = record { holds = f; demand3 = rw (found-world image P m _ f) (demand3 P z (standsFor past) h) }
-
-  -- each call of a session does what is claimed, and leaves what the next one finds
-  session-law : {m m′ : Memory} {cs : List Exported} (s : Session image m cs m′) (past : List Exported) → Finds image P m (callsOf P z (standsFor past) (loaded P)) → sizes m ≡ z → All (RefusedLoad z) (standsFor past) → All (RefusedLoad z) (standsFor cs)
-      → Each P z past s × After image P z (past ++ cs) m′
-  unfolding standsFor
-  session-law {m = m} done past f e h l = (tt, rw append-nil (after past m f h))
-  session-law (call {m = m} {c = c} {cs = cs} r n a s) past f e h l =
-      let k = loads-first z (callFor c) (standsFor cs) l in
-      let x = called parsed same (callsOf P z (standsFor past) (loaded P)) m f c r n (rw e (k .0)) a in
-      let next : Finds image P n (worldBy P z (callFor c) (callsOf P z (standsFor past) (loaded P))) = rw e at (x .next) in
-      let rest = session-law s (past ++ (c ∷ [])) (rw (calls-next P z past c (loaded P)) next) (x .sizes ∙ e) (loads-next z past c h (k .0)) (k .1) in
-      ((after past m f h, rw e at (x .does), rest .0), rw append-assoc at (rest .1))
 
 -- a load that answers 0 is accepted
 accepted-load : (image : List ℕ) (m : Memory) (r : Got) → r ≡ loadAnswer (loading image (m .state) (m .live) (m .store)) → r .code ≡ 0
@@ -110,15 +88,58 @@ loaded-finds image P m₀ m q n e l =
     })
     f
 
--- Demand 3 of the exported functions: from an accepted load into any memory m₀, through any session in which no load is accepted.
-pub demand3-exported : (image : List ℕ) (m₀ m m′ : Memory) (r : Got) (cs : List Exported) → Allows image (lucia-load image) m₀ r m → r .code ≡ 0
-    → (s : Session image m cs m′) → All (RefusedLoad (sizes m)) (standsFor cs) → Demanded s
-unfolding standsFor callsOf
-demand3-exported image m₀ m m′ r cs a z s h =
+-- what is shown of a history, call by call
+record Shown {image : List ℕ} {past : List Lent} {m : Memory} (l : Led image past m) : Type 0 where
+  program : Program
+  parsed : parse (program .image) ≡ accepted (program .codes)
+  same : program .image ≡ image
+  each : Each program l
+  finds : Finds image program m (callsOf program past (loaded program))
+  refused : NoLoads past
+
+after : (image : List ℕ) (P : Program) (past : List Lent) (m : Memory) → Finds image P m (callsOf P past (loaded P)) → NoLoads past → After image P past m
+after image P past m f h = record { holds = f; demand3 = rw (found-world image P m _ f) (demand3 P past h) }
+
+shown : {image : List ℕ} {past : List Lent} {m : Memory} (l : Led image past m) → Shown l
+unfolding callsOf
+shown {image} (loads {m₀ = m₀} {m = m} r a z) =
     let x = accepted-load image m₀ r (a .0 .answers) z in
     let P = x .0 in
     let l : Loads P (m₀ .state) (m₀ .store) (m .state) (m .store) = rw (x .1) at (a .0 .leaves) in
     let e : sizes m ≡ sizes m₀ = same-sizes m₀ m (l .len, ap length (a .1), l .objects .len) in
     let k = loaded-as P (sizes m₀) image (x .2) in
-    let t = session-law (k .parsed) (k .image) (sizes m) s [] (loaded-finds image P m₀ m (x .2) (x .3) e l) refl tt h in
-    record { program = P; loads = ap (load image) e ∙ x .2; each = t .0; final = t .1 }
+    record { program = P; parsed = k .parsed; same = k .image; each = ap (load image) e ∙ x .2; finds = loaded-finds image P m₀ m (x .2) (x .3) e l; refused = tt }
+shown {image} (calls {past = past} {m = m} l c r n a h) =
+    let k = shown l in
+    let P = k .program in
+    let w = callsOf P past (loaded P) in
+    let f : worldIn m ≡ w = found-world image P m w (k .finds) in
+    let x = called (k .parsed) (k .same) w m (k .finds) c r n (rw f at h) a in
+    let q = standsFor (sizes m) (callFor w c) in
+    record {
+      program = P;
+      parsed = k .parsed;
+      same = k .same;
+      each = (k .each, after image P past m (k .finds) (k .refused), x .does);
+      finds = rw (f, calls-append P past q (loaded P), calls-one P (sizes m) (callFor w c) w) (x .next);
+      refused = rw f (loads-append past q (k .refused) (loads-one (sizes m) (callFor w c) (rw f at h)));
+    }
+shown {image} (longer {past = past} {m = m} l live store) =
+    let k = shown l in
+    let P = k .program in
+    let w = callsOf P past (loaded P) in
+    let g = ready image (m .state) (m .live) (m .store) (record { program = P; world = w }) (k .finds) in
+    let n = memory (m .state) (m .live ++ live) (m .store ++ store) in
+    record {
+      program = P;
+      parsed = k .parsed;
+      same = k .same;
+      each = k .each;
+      finds = finds (k .parsed) (k .same) w n (g .size) (longer-holds P w (cells (m .state)) (m .live) (m .store) live store (g .holds))
+          (longer-fits P w (cells (m .state)) (m .live) (m .store) live store (g .fits));
+      refused = k .refused;
+    }
+
+-- Demand 3 of the exported functions, of every history.
+pub demand3-exported : {image : List ℕ} {past : List Lent} {m : Memory} (l : Led image past m) → Demanded l
+demand3-exported {image} {past} {m} l = let k = shown l in record { program = k .program; each = k .each; final = after image (k .program) past m (k .finds) (k .refused) }

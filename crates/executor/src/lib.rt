@@ -1,16 +1,12 @@
 // The calls of the host, exported to C. Each is one function of the crates below, with the same contract.
-ghost use mathlib.Core.Path.{_≡_};
-ghost use Rattle.machine.specs.Calls.{clear, text, bytes, setGlobal, getGlobal, setBuiltin, getBuiltin};
-ghost use Rattle.runs.specs.Ran.{RunCalled};
-ghost use Rattle.turns.specs.Turned.{StartCalled, AnswerCalled};
-ghost use Rattle.asks.specs.Asks.{cellOf, gotBy, partBy, Asked, Loaded};
+ghost use Rattle.executor.specs.Exports.{memory, Allows, lucia-load, lucia-start, lucia-run, lucia-answer, lucia-clear, lucia-text, lucia-bytes, lucia-set-global, lucia-get-global, lucia-set-builtin, lucia-get-builtin};
 use asks::Got;
 use asks::Part;
 use runs::Ran;
 
 #[no_mangle]
 pub extern "C" fn lucia_load(image: &[u8], state: &mut [u8], live: &[u8], store: &mut [u8]) -> Got
-    ensures { λ r. ⌜ Loaded (now (image .entry)) (now (state .entry)) (now (live .entry)) (now (store .entry)) r (now (state .exit)) (now (store .exit)) ⌝ }
+    ensures { λ r. ⌜ Allows (now (image .entry)) (lucia-load (now (image .entry))) (memory (now (state .entry)) (now (live .entry)) (now (store .entry))) r (memory (now (state .exit)) (now (live .entry)) (now (store .exit))) ⌝ }
 {
     loading::load(image, state, live, store)
 }
@@ -25,7 +21,7 @@ pub extern "C" fn lucia_start(
     high: u64,
     args: &[u8],
 ) -> u32
-    ensures { λ r. ⌜ StartCalled (now (image .entry)) (cellOf low high) (now (args .entry)) r (now (state .entry)) (now (live .entry)) (now (store .entry)) (now (state .exit)) (now (live .exit)) (now (store .exit)) ⌝ }
+    ensures { λ r. ⌜ Allows (now (image .entry)) (lucia-start low high (now (args .entry))) (memory (now (state .entry)) (now (live .entry)) (now (store .entry))) r (memory (now (state .exit)) (now (live .exit)) (now (store .exit))) ⌝ }
 {
     turns::start(image, state, live, store, asks::cell_of(low, high), args)
 }
@@ -39,7 +35,7 @@ pub extern "C" fn lucia_run(
     fuel: &mut [u8],
     ticks: u32,
 ) -> Ran
-    ensures { λ r. ⌜ RunCalled (now (image .entry)) ticks r (now (state .entry)) (now (live .entry)) (now (store .entry)) (now (fuel .entry)) (now (state .exit)) (now (live .exit)) (now (store .exit)) (now (fuel .exit)) ⌝ }
+    ensures { λ r. ⌜ Allows (now (image .entry)) (lucia-run (now (fuel .entry)) ticks) (memory (now (state .entry)) (now (live .entry)) (now (store .entry))) (r, now (fuel .exit)) (memory (now (state .exit)) (now (live .exit)) (now (store .exit))) ⌝ }
 {
     runs::run(image, state, live, store, fuel, ticks)
 }
@@ -58,7 +54,7 @@ pub extern "C" fn lucia_answer(
     args: &[u8],
     handlers: &[u8],
 ) -> u32
-    ensures { λ r. ⌜ AnswerCalled (now (image .entry)) kind word (cellOf low high) (now (args .entry)) (now (handlers .entry)) r (now (state .entry)) (now (live .entry)) (now (store .entry)) (now (fuel .entry)) (now (state .exit)) (now (live .exit)) (now (store .exit)) (now (fuel .exit)) ⌝ }
+    ensures { λ r. ⌜ Allows (now (image .entry)) (lucia-answer (now (fuel .entry)) kind word low high (now (args .entry)) (now (handlers .entry))) (memory (now (state .entry)) (now (live .entry)) (now (store .entry))) (r, now (fuel .exit)) (memory (now (state .exit)) (now (live .exit)) (now (store .exit))) ⌝ }
 {
     let subject = asks::cell_of(low, high);
     turns::answer(
@@ -77,7 +73,7 @@ pub extern "C" fn lucia_answer(
 
 #[no_mangle]
 pub extern "C" fn lucia_clear(image: &[u8], state: &mut [u8], live: &[u8], store: &[u8]) -> u32
-    ensures { λ r. ⌜ Asked clear (now (image .entry)) (now (state .entry)) (now (live .entry)) (now (store .entry)) r (now (state .exit)) ⌝ }
+    ensures { λ r. ⌜ Allows (now (image .entry)) lucia-clear (memory (now (state .entry)) (now (live .entry)) (now (store .entry))) r (memory (now (state .exit)) (now (live .entry)) (now (store .entry))) ⌝ }
 {
     loading::clear(image, state, live, store)
 }
@@ -92,7 +88,7 @@ pub extern "C" fn lucia_text(
     low: u64,
     high: u64,
 ) -> Part
-    ensures { λ r. ⌜ r ≡ partBy (text (now (page .entry)) (cellOf low high)) (now (image .entry)) (now (state .entry)) (now (live .entry)) (now (store .entry)) ⌝ }
+    ensures { λ r. ⌜ Allows (now (image .entry)) (lucia-text (now (page .entry)) low high) (memory (now (state .entry)) (now (live .entry)) (now (store .entry))) r (memory (now (state .entry)) (now (live .entry)) (now (store .entry))) ⌝ }
 {
     readings::text(image, state, live, store, page, low, high)
 }
@@ -106,7 +102,7 @@ pub extern "C" fn lucia_bytes(
     low: u64,
     high: u64,
 ) -> Part
-    ensures { λ r. ⌜ r ≡ partBy (bytes (cellOf low high)) (now (image .entry)) (now (state .entry)) (now (live .entry)) (now (store .entry)) ⌝ }
+    ensures { λ r. ⌜ Allows (now (image .entry)) (lucia-bytes low high) (memory (now (state .entry)) (now (live .entry)) (now (store .entry))) r (memory (now (state .entry)) (now (live .entry)) (now (store .entry))) ⌝ }
 {
     readings::bytes(image, state, live, store, low, high)
 }
@@ -121,7 +117,7 @@ pub extern "C" fn lucia_set_global(
     low: u64,
     high: u64,
 ) -> u32
-    ensures { λ r. ⌜ Asked (setGlobal number (cellOf low high)) (now (image .entry)) (now (state .entry)) (now (live .entry)) (now (store .entry)) r (now (state .exit)) ⌝ }
+    ensures { λ r. ⌜ Allows (now (image .entry)) (lucia-set-global number low high) (memory (now (state .entry)) (now (live .entry)) (now (store .entry))) r (memory (now (state .exit)) (now (live .entry)) (now (store .entry))) ⌝ }
 {
     settings::set_global(image, state, live, store, number, low, high)
 }
@@ -134,7 +130,7 @@ pub extern "C" fn lucia_get_global(
     store: &[u8],
     number: u32,
 ) -> Got
-    ensures { λ r. ⌜ r ≡ gotBy (getGlobal number) (now (image .entry)) (now (state .entry)) (now (live .entry)) (now (store .entry)) ⌝ }
+    ensures { λ r. ⌜ Allows (now (image .entry)) (lucia-get-global number) (memory (now (state .entry)) (now (live .entry)) (now (store .entry))) r (memory (now (state .entry)) (now (live .entry)) (now (store .entry))) ⌝ }
 {
     readings::get_global(image, state, live, store, number)
 }
@@ -149,7 +145,7 @@ pub extern "C" fn lucia_set_builtin(
     low: u64,
     high: u64,
 ) -> u32
-    ensures { λ r. ⌜ Asked (setBuiltin number (cellOf low high)) (now (image .entry)) (now (state .entry)) (now (live .entry)) (now (store .entry)) r (now (state .exit)) ⌝ }
+    ensures { λ r. ⌜ Allows (now (image .entry)) (lucia-set-builtin number low high) (memory (now (state .entry)) (now (live .entry)) (now (store .entry))) r (memory (now (state .exit)) (now (live .entry)) (now (store .entry))) ⌝ }
 {
     settings::set_builtin(image, state, live, store, number, low, high)
 }
@@ -162,7 +158,7 @@ pub extern "C" fn lucia_get_builtin(
     store: &[u8],
     number: u32,
 ) -> Got
-    ensures { λ r. ⌜ r ≡ gotBy (getBuiltin number) (now (image .entry)) (now (state .entry)) (now (live .entry)) (now (store .entry)) ⌝ }
+    ensures { λ r. ⌜ Allows (now (image .entry)) (lucia-get-builtin number) (memory (now (state .entry)) (now (live .entry)) (now (store .entry))) r (memory (now (state .entry)) (now (live .entry)) (now (store .entry))) ⌝ }
 {
     readings::get_builtin(image, state, live, store, number)
 }

@@ -1,5 +1,5 @@
 -- Slices, runs, and the calls of the host. A call is one definition, `Trace`: its steps, then its answer, the fuel and the world. All else is read off it.
-use mathlib.Core.List.{List, [], _∷_, _++_}
+use mathlib.Core.List.{List, [], _∷_}
 use mathlib.Core.Bool.{Bool, true, false}
 use Prim.Native.Nat.{ℕ, zero, suc, _+_, _-_}
 use lib.IntN.{pos}
@@ -436,12 +436,15 @@ callOf P z (runs t fuel) w = if? (w .wait) (ends 11 nothing fuel w) (run P z t f
 callOf P z (asks q) w = asked P q w (outcome P z (requestAction P q w) (w .machine))
 callOf P z (loads image) w = loadTrace w (load image z)
 
--- the world after a list of calls, each lent the image of P and what the last one left; an accepted load of another image is not in it but starts a new list
-unfoldable pub callsOf : Program → Sizes → List Call → World → World
-callsOf P z [] w = w
-callsOf P z (c ∷ cs) w = callsOf P z cs (worldAfter (callOf P z c w))
+-- a call with the sizes of the memory that it is lent
+pub record Lent : Type 0 where
+  pub sizes : Sizes
+  pub call : Call
 
--- the history of a list of calls: its steps, each with the machine before, what was done, and the machine after
-unfoldable pub history : Program → Sizes → List Call → World → List Step
-history P z [] w = []
-history P z (c ∷ cs) w = stepsOf (callOf P z c w) ++ history P z cs (worldAfter (callOf P z c w))
+abbrev pub lent : Sizes → Call → Lent
+lent z c = record { sizes = z; call = c }
+
+-- the world after a list of calls, each lent the image of P and what the last one left; an accepted load of another image is not in it but starts a new list
+unfoldable pub callsOf : Program → List Lent → World → World
+callsOf P [] w = w
+callsOf P (c ∷ cs) w = callsOf P cs (worldAfter (callOf P (c .sizes) (c .call) w))

@@ -1,51 +1,28 @@
--- Demand 3, as one statement about a history.
+-- Demand 3: the rules by which frames, store, globals and result change, and the claim about every list of calls. It
+-- takes from the machine its data, where an object stands (`objectAt`, `used`), what a call gave (`callOf`) and, in one
+-- clause, when a run's next step is refused (`outcome`).
 use mathlib.Core.Path.{_≡_}
-use mathlib.Core.List.{List, [], _∷_, _++_}
+use mathlib.Core.List.{List, [], _∷_, _++_, reverse}
 use mathlib.Core.Logic.{_⊎_}
-use mathlib.Core.Bool.{true}
-use Prim.Native.Nat.{ℕ, _<_}
-use lib.ListN.{getD}
+use mathlib.Core.Bool.{Bool, true, false}
+use Prim.Native.Nat.{ℕ, _+_, _%_, _≤_, _<_}
+use lib.ListN.{length, getD, take, drop, set, replicate}
 use lib.Dec.{eqb}
 use Rattle.cells.specs.Cells.{null}
+use Rattle.cells.specs.Le.{leAt}
 use Rattle.cells.specs.declared.Cell.{Cell}
+use Rattle.fuel.specs.Fuels.{should-continue}
 use Rattle.image.specs.Records.{if?, accepted}
-use Rattle.machine.specs.Values.{Program, codeOf, builtin, codeParams, effectParams, equalEffects, continuationAt, thrown}
-use Rattle.machine.specs.Machine.{Frame, lucia, host, effectCallback, Object, closure, list, continuation, M, used, here, objectAt, checkArgs, handlersOf, enter, Function, isClosure, isCallback, isEffectCallback, isContinuation, isNone, functionOf}
-use Rattle.machine.specs.Opcodes.{Action, goes, jumps, makes, sets, setsBuiltin, calls, performs, throws, returns, clears, doing, takes, nextAction}
-use Rattle.machine.specs.Calls.{Request, requestAction, World, Sizes, Call, runs, asks, loads, load, Step}
-
--- What a step is to demand 3.
-pub data Event : Type 0 where
-  performing : (effect : Cell) (left : List Frame) → Event
-  resuming : (handle : ℕ) (v : Cell) (left : List Frame) → Event
-  quiet : (left : List Frame) → Event
-
--- A call of a continuation with one value resumes it, and a call with a wrong count throws: it performs Error, builtin 1.
-unfoldable pub callEvent : Program → Function → List Cell → List Frame → Event
-callEvent P (isClosure h c) args F = if? (checkArgs (codeParams (codeOf P c)) args) (quiet F) (performing (builtin 1) F)
-callEvent P (isCallback n w) args F = quiet F
-callEvent P (isEffectCallback e) args F = quiet F
-callEvent P (isContinuation k K) [] F = performing (builtin 1) F
-callEvent P (isContinuation k K) (v ∷ []) F = resuming k v F
-callEvent P (isContinuation k K) (v ∷ w ∷ vs) F = performing (builtin 1) F
-callEvent P isNone args F = performing (builtin 1) F
-
--- A throw performs its builtin, Error or Panic; so does a perform with a wrong count.
-unfoldable pub eventOf : Program → List Object → Action → Event
-eventOf P s (goes F) = quiet F
-eventOf P s (jumps F) = quiet F
-eventOf P s (makes o F) = quiet F
-eventOf P s (sets g v F) = quiet F
-eventOf P s (setsBuiltin g v F) = quiet F
-eventOf P s (calls f args F) = callEvent P (functionOf s f) args F
-eventOf P s (performs e args F) = if? (checkArgs (effectParams P e) args) (performing e F) (performing (builtin 1) F)
-eventOf P s (throws x F) = performing (thrown x) F
-eventOf P s (returns v F) = quiet F
-eventOf P s clears = quiet []
-
--- The event of a step.
-abbrev pub eventAt : Program → Step → Event
-eventAt P s = eventOf P (s .before .store) (s .action)
+use Rattle.image.specs.Program.{Code, noCode, noOp}
+use Rattle.image.specs.Fine.{noConstant, bytesOf}
+use Rattle.machine.specs.Values.{Program, Error, luciaError, luciaPanic}
+use Rattle.machine.specs.Machine.{Handler, Frame, lucia, host, effectCallback, Object, closure, list, continuation}
+use Rattle.machine.specs.Machine.{Result, running, returned, failed, unhandled, M, used, here, objectAt}
+use Rattle.machine.specs.Opcodes.{Running, nextAction}
+use Rattle.machine.specs.Calls.{CallbackReturn, callWith, perform, tailCall, tailPerform, returnIt, errorWith, panicWith}
+use Rattle.machine.specs.Calls.{Request, start, answer, clear, text, bytes, setGlobal, getGlobal, setBuiltin, getBuiltin}
+use Rattle.machine.specs.Calls.{World, Sizes, Call, Lent, runs, asks, loads, load, loaded, stops, outcome}
+use Rattle.machine.specs.Calls.{Step, Trace, stepsOf, answerOf, givenOf, fuelAfter, worldAfter, callOf}
 
 -- Q holds of all of a list; of one of it.
 abbrev pub All : {A : Type 0} → (A → Type 0) → List A → Type 0
@@ -56,155 +33,358 @@ abbrev pub Any : {A : Type 0} → (A → Type 0) → List A → Type 0
 Any Q [] = ⊥
 Any Q (x ∷ xs) = Q x ⊎ Any Q xs
 
--- The frame handles the effect: one of its handlers is for an equal one.
-abbrev pub Handles : Program → Cell → Frame → Type 0
-Handles P e f = Any (λ x. equalEffects P x e ≡ true) (handlersOf f)
+-- ---- What is remembered of a step: the continuation k of the frames K that it captured, the global that it set
+pub data Deed : Type 0 where
+  captures : (k : ℕ) (K : List Frame) → Deed
+  sets : (g : ℕ) (v : Cell) → Deed
+  other : Deed
 
--- The frames under the top one.
-abbrev pub underTop : List Frame → List Frame
-underTop [] = []
-underTop (top ∷ fs) = fs
+-- The continuation k of the frames K comes from a perform of these steps, of which the last is first, and stays as it
+-- was captured. (Ticket 8: a collection keeps what is reached, and renames: then this clause says what a step makes of
+-- the continuations before it.)
+abbrev pub From : List Deed → ℕ → List Frame → Type 0
+From [] k K = ⊥
+From (d ∷ past) k K = (d ≡ captures k K) ⊎ From past k K
 
--- K is the frames of F above the highest frame under the top that handles e, which is `handler`.
-pub record Captured (P : Program) (e : Cell) (F K : List Frame) (handler : Frame) (below : List Frame) : Type 0 where
-  pub top : Frame
-  pub between : List Frame
-  pub frames : F ≡ top ∷ between ++ handler ∷ below
-  pub captured : K ≡ top ∷ between
-  pub handles : Handles P e handler
-  pub highest : All (λ f. Handles P e f → ⊥) between
+-- "what script or host last set since the load, else null"
+abbrev pub lastSet : ℕ → List Deed → Cell
+lastSet g [] = null
+lastSet g (captures k K ∷ past) = lastSet g past
+lastSet g (sets h v ∷ past) = if? (eqb g h) v (lastSet g past)
+lastSet g (other ∷ past) = lastSet g past
+
+-- ---- Values, frames, counts, objects
+-- The value of this tag and number: 8 a builtin effect (1 Error, 2 Panic), 6 a list, 23 a continuation, by its handle.
+abbrev pub value : (tag number : ℕ) → Cell
+value t n = record { tag = t; number = n; payload = 0 }
+
+-- "the value .. goes on the last frame's stack, or alone there in a callback frame"
+abbrev pub gets : Cell → Frame → Frame
+gets v (lucia c p l s hs) = lucia c p l (v ∷ s) hs
+gets v (host n w s hs) = host n w (v ∷ []) hs
+gets v (effectCallback e s hs) = effectCallback e (v ∷ []) hs
+
+abbrev pub bare : Frame → Frame
+bare (lucia c p l s hs) = lucia c p l s []
+bare (host n w s hs) = host n w s []
+bare (effectCallback e s hs) = effectCallback e s []
+
+-- A new frame of the closure h with n locals.
+abbrev pub new : (h n : ℕ) → (given : List Cell) → Frame
+new h n given = lucia h 0 (replicate n null) (reverse given) []
+
+-- "a fitting argument count", of n parameters of which the last may be variadic (mark 1)
+abbrev pub Fits : (n mark : ℕ) → List Cell → Type 0
+Fits n mark args = ((mark ≡ 1) × (n ≤ length args)) ⊎ ((mark ≡ 1 → ⊥) × (n ≡ length args))
+
+-- The arguments as they are passed, from the store s to s′: a variadic's past its count are one new list.
+abbrev pub Passed : (n mark : ℕ) (args given : List Cell) (s s′ : List Object) → Type 0
+Passed n mark args given s s′ = ((mark ≡ 1 → ⊥) × (given ≡ args) × (s′ ≡ s))
+    ⊎ ((mark ≡ 1) × (given ≡ take n args ++ (value 6 (used s) ∷ [])) × (s′ ≡ s ++ (list (drop n args) ∷ [])))
 
 -- Object k of the store is the continuation of the frames K.
 abbrev pub Stored : List Object → ℕ → List Frame → Type 0
 Stored s k K = objectAt s k ≡ here (continuation K)
 
--- What a perform of e, with the frames F as its search begins, makes of the machine; k is the store's next handle.
-pub data Performed (P : Program) (e : Cell) (F : List Frame) (k : ℕ) (after : M) : Type 0 where
-  handled : (K : List Frame) (handler : Frame) (below : List Frame) (args : List Cell)
-      → Captured P e F K handler below
-      → after .frames ≡ enter P e (continuationAt k) args handler ∷ below
-      → Stored (after .store) k K
-      → Performed P e F k after
-  unhandled : All (λ f. Handles P e f → ⊥) (underTop F) → after .frames ≡ F → Performed P e F k after
+-- An effect: a builtin, or one of the image.
+abbrev pub Effect : Cell → Type 0
+Effect v = v .tag % 16 ≡ 8
 
--- The step is the perform that captured K, as the store's next object, k.
-pub record Made (P : Program) (k : ℕ) (K : List Frame) (s : Step) : Type 0 where
-  pub effect : Cell
-  pub left : List Frame
-  pub handler : Frame
-  pub below : List Frame
-  pub performed : eventAt P s ≡ performing effect left
-  pub captures : Captured P effect left K handler below
-  pub handle : k ≡ used (s .before .store)
+-- A function: an effect, a callback, a closure or a continuation of the store.
+abbrev pub Callable : List Object → Cell → Type 0
+Callable s f = Effect f ⊎ (f .tag ≡ 39) ⊎ ((f .tag ≡ 23) × (K : List Frame) × Stored s (f .number) K)
+    ⊎ ((f .tag ≡ 7) × (c : ℕ) × (us : List Cell) × (objectAt s (f .number) ≡ here (closure c us)))
 
--- The frame with the value on its stack, or alone there in a callback frame.
-abbrev pub Gets : Cell → Frame → Frame → Type 0
-Gets v (lucia c p l s hs) g = g ≡ lucia c p l (v ∷ s) hs
-Gets v (host n w s hs) g = g ≡ host n w (v ∷ []) hs
-Gets v (effectCallback e s hs) g = g ≡ effectCallback e (v ∷ []) hs
+-- An opcode that is no StoreGlobal, Call, Return, ReturnCall or RegisterHandler changes its own frame alone, whose
+-- handlers stay. Which value it gives, and where it goes, is demand 2.
+abbrev pub Plain : ℕ → Type 0
+Plain op = (op ≡ 8 → ⊥) × (op ≡ 36 → ⊥) × (op ≡ 37 → ⊥) × (op ≡ 38 → ⊥) × (op ≡ 49 → ⊥)
 
--- A resume of k with v, over the frames F that the call left: on top of them come the frames that a step of the past captured as k.
-pub record Resumed (P : Program) (k : ℕ) (v : Cell) (F : List Frame) (past : List Step) (after : M) : Type 0 where
-  pub top : Frame
-  pub rest : List Frame
-  pub given : Frame
-  pub made : Any (Made P k (top ∷ rest)) past
-  pub gets : Gets v top given
-  pub frames : after .frames ≡ given ∷ rest ++ F
+-- The other opcodes that throw, and how many operands are gone then: "`JumpIfTrueOrPop` on a non-bool throws without
+-- popping, `PopJumpIfTrue` after".
+abbrev pub Takes : (op n : ℕ) → Type 0
+Takes op n = (((op ≡ 47) ⊎ (op ≡ 48)) × (n ≡ 0))
+    ⊎ ((((17 ≤ op) × (op ≤ 18)) ⊎ (op ≡ 45) ⊎ (op ≡ 46)) × (n ≡ 1))
+    ⊎ ((((19 ≤ op) × (op ≤ 29)) ⊎ (op ≡ 50)) × (n ≡ 2))
 
--- Any other step leaves the frames F but for the top one: one is new there, or that one is changed.
-pub data Quiet (F : List Frame) (after : M) : Type 0 where
-  same : after .frames ≡ F → Quiet F after
-  one : (f : Frame) → after .frames ≡ f ∷ F → Quiet F after
-  top : (f : Frame) → after .frames ≡ f ∷ underTop F → Quiet F after
+-- A run is over; it awaits the host.
+abbrev pub Over : M → Type 0
+Over m = (m .result ≡ running → ⊥) ⊎ (m .frames ≡ [])
 
--- Whose frame it is.
-pub data Who : Type 0 where
-  ofClosure : ℕ → Who
-  ofHost : ℕ → Who
-  ofEffect : Cell → Who
+abbrev pub Awaits : M → Type 0
+Awaits m = (m .result ≡ running) × (n w : ℕ) × (st hs : List Cell) × (below : List Frame)
+    × (m .frames ≡ host n w st hs ∷ below)
 
-abbrev pub who : Frame → Who
-who (lucia c p l s hs) = ofClosure c
-who (host n w s hs) = ofHost n
-who (effectCallback e s hs) = ofEffect e
+-- The machine with other frames and store; with another result; once it returns v to the frames F, where the top one
+-- loses its handlers; with another global.
+abbrev pub put : List Frame → List Object → M → M
+put F s m = record { frames = F; store = s; globals = m .globals; builtins = m .builtins; result = m .result }
 
--- An effect callback does nothing but perform, once its frame is gone.
-abbrev pub Stays : Frame → Type 0
-Stays (lucia c p l s hs) = Unit {0}
-Stays (host n w s hs) = Unit {0}
-Stays (effectCallback e s hs) = ⊥
+abbrev pub ending : Result → List Frame → M → M
+ending r F m = record { frames = F; store = m .store; globals = m .globals; builtins = m .builtins; result = r }
 
--- The frames F that an action finds: the running one is gone, or is the same closure's or callback's; under it all is as it was.
-pub data Left (frames F : List Frame) : Type 0 where
-  gone : F ≡ underTop frames → Left frames F
-  kept : (f g : Frame) (below : List Frame) → frames ≡ f ∷ below → F ≡ g ∷ below → who f ≡ who g → Stays f → Left frames F
+abbrev pub returning : Cell → List Frame → M → M
+returning v [] m = ending (returned v) [] m
+returning v (f ∷ F) m = put (bare (gets v f) ∷ F) (m .store) m
 
--- An object that is made as such is no continuation: only a perform makes one.
-abbrev pub NoContinuation : Object → Type 0
-NoContinuation (closure c us) = Unit {0}
-NoContinuation (list vs) = Unit {0}
-NoContinuation (continuation K) = ⊥
+abbrev pub setting : ℕ → Cell → List Frame → M → M
+setting g v F m =
+    record { frames = F; store = m .store; globals = set (m .globals) g v; builtins = m .builtins; result = m .result }
 
--- What an action finds and makes; a request that reads or sets leaves all frames as they were.
-abbrev pub LeftBy : List Frame → Action → Type 0
-LeftBy frames (goes F) = (F ≡ frames) ⊎ Left frames F
-LeftBy frames (jumps F) = Left frames F
-LeftBy frames (makes o F) = NoContinuation o × Left frames F
-LeftBy frames (sets g v F) = (F ≡ frames) ⊎ Left frames F
-LeftBy frames (setsBuiltin g v F) = F ≡ frames
-LeftBy frames (calls f args F) = Left frames F
-LeftBy frames (performs e args F) = Left frames F
-LeftBy frames (throws x F) = Left frames F
-LeftBy frames (returns v F) = Left frames F
-LeftBy frames clears = Unit {0}
+abbrev pub settingBuiltin : ℕ → Cell → M → M
+settingBuiltin g v m =
+    let new = set (m .builtins) g v in
+    record { frames = m .frames; store = m .store; globals = m .globals; builtins = new; result = m .result }
 
--- The step is the next opcode or effect callback, or a call of the list, with or without a wait.
-abbrev pub ByRule : Program → List Call → Step → Type 0
-ByRule P cs s =
-    (nextAction P (s .before) (s .before .frames) ≡ takes (s .action))
-    ⊎ ((q : Request) × (w : World) × (w .machine ≡ s .before) × Any (λ c. c ≡ asks q) cs × (requestAction P q w ≡ takes (s .action)))
+module _ (P : Program) where
+  -- A code of the image; the bytes of the constant that an effect of the image is.
+  abbrev pub codeAt : ℕ → Code
+  codeAt c = getD (P .codes) c noCode
 
--- The steps lead from one machine to the other, each by the rules.
-abbrev pub Leads : Program → List Call → M → List Step → M → Type 0
-Leads P cs m [] m′ = m ≡ m′
-Leads P cs m (s ∷ ss) m′ = (s .before ≡ m) × ByRule P cs s × (s .after ≡ doing P (s .action) (s .before)) × Leads P cs (s .after) ss m′
+  abbrev pub bytesAt : Cell → List ℕ
+  bytesAt v = bytesOf (P .image) (getD (codeAt (v .number) .constants) (v .payload) noConstant)
 
--- Global g after an action, which was `old`.
-unfoldable pub newer : ℕ → Action → Cell → Cell
-newer g (goes F) old = old
-newer g (jumps F) old = old
-newer g (makes o F) old = old
-newer g (sets h v F) old = if? (eqb g h) v old
-newer g (setsBuiltin h v F) old = old
-newer g (calls f args F) old = old
-newer g (performs e args F) old = old
-newer g (throws x F) old = old
-newer g (returns v F) old = old
-newer g clears old = old
+  -- ---- "Effects are equal if the same builtin, or of equal name, parameter count and variadic mark": tag 8 is a
+  -- builtin, tag 24 one of the image, whose bytes are kind, count, mark and name
+  abbrev pub Same : Cell → Cell → Type 0
+  Same a b = let A = bytesAt a in let B = bytesAt b in ((a .tag ≡ 8) × (b .tag ≡ 8) × (a .number ≡ b .number))
+      ⊎ ((a .tag ≡ 8 → ⊥) × (b .tag ≡ 24) × (leAt 2 A 0 ≡ leAt 2 B 0)
+      × ((leAt 2 A 0 ≤ 2) ⊎ ((leAt 2 A 2 ≡ leAt 2 B 2) × (leAt 2 A 4 ≡ leAt 2 B 4) × (drop 6 A ≡ drop 6 B))))
 
--- What global g was last set to, else `old`.
-unfoldable pub lastSet : ℕ → Cell → List Step → Cell
-lastSet g old [] = old
-lastSet g old (s ∷ ss) = lastSet g (newer g (s .action) old) ss
+  -- Its parameter count and variadic mark; a builtin has one parameter.
+  abbrev pub countOf : Cell → ℕ
+  countOf e = if? (eqb (e .tag) 8) 1 (leAt 2 (bytesAt e) 2)
 
--- The call is no accepted load.
+  abbrev pub markOf : Cell → ℕ
+  markOf e = if? (eqb (e .tag) 8) 0 (leAt 2 (bytesAt e) 4)
+
+  -- The frame handles the effect: one of its handlers is for an equal one.
+  abbrev pub Handles : Cell → Frame → Type 0
+  Handles e (lucia c p l s hs) = Any (λ h. Same (h .effect) e) hs
+  Handles e (host n w s hs) = Any (λ x. Same x e) hs
+  Handles e (effectCallback x s hs) = Any (λ y. Same y e) hs
+
+  -- ---- "exactly the frames above the highest frame under the top that handles the effect": K, of the frames F as the
+  -- search begins
+  pub record Captured (e : Cell) (F K : List Frame) (handler : Frame) (below : List Frame) : Type 0 where
+    pub top : Frame
+    pub between : List Frame
+    pub frames : F ≡ top ∷ between ++ handler ∷ below
+    pub captured : K ≡ top ∷ between
+    pub handles : Handles e handler
+    pub highest : All (λ f. Handles e f → ⊥) between
+
+  -- "A Lucia frame loses its handlers, gets continuation, arguments and effect on its stack, and goes to the target. A
+  -- callback frame loses its own too, and gets effect, continuation, arguments on an emptied stack."
+  abbrev pub Entered : (e k : Cell) (args : List Cell) → Frame → Frame → Type 0
+  Entered e k args (lucia c p l s hs) g =
+      (t : ℕ) × Any (λ h. Same (h .effect) e × (t ≡ h .target)) hs × (g ≡ lucia c t l (e ∷ reverse args ++ k ∷ s) [])
+  Entered e k args (host n w s hs) g = g ≡ host n w (reverse (e ∷ k ∷ args)) []
+  Entered e k args (effectCallback x s hs) g = g ≡ effectCallback x (reverse (e ∷ k ∷ args)) []
+
+  -- The handlers `new` are `hs` with one for e at target t: a new one behind them, or what is stored with an equal one
+  -- is replaced.
+  abbrev pub Registered : (e : Cell) (t : ℕ) (hs new : List Handler) → Type 0
+  Registered e t [] new = (n : ℕ) × (new ≡ record { effect = e; target = t; stackSize = n } ∷ [])
+  Registered e t (h ∷ hs) new =
+      (Same (h .effect) e × (n : ℕ) × (new ≡ record { effect = h .effect; target = t; stackSize = n } ∷ hs))
+      ⊎ ((Same (h .effect) e → ⊥) × (rest : List Handler) × Registered e t hs rest × (new ≡ h ∷ rest))
+
+  -- The handlers `hs` are the effects of an answer, in order, but for those that are equal to one before (`seen`).
+  abbrev pub PutIn : (seen new hs : List Cell) → Type 0
+  PutIn seen [] hs = hs ≡ []
+  PutIn seen (e ∷ es) hs = (Any (λ x. Same x e) seen × PutIn seen es hs)
+      ⊎ ((Any (λ x. Same x e) seen → ⊥) × (rest : List Cell) × (hs ≡ e ∷ rest) × PutIn (e ∷ seen) es rest)
+
+  module _ (m : M) where
+    -- A perform of e with arguments that fit, over the frames F: "None found: the effect is the result", "no frame
+    -- changes".
+    pub data Operates (e : Cell) (args : List Cell) (r : Result) (F : List Frame) : Deed → M → Type 0 where
+      handled : (K below : List Frame) (handler new : Frame) (given : List Cell) (s : List Object)
+          → Captured e F K handler below
+          → Passed (countOf e) (markOf e) args given (m .store ++ (continuation K ∷ [])) s
+          → Entered e (value 23 (used (m .store))) given handler new
+          → Operates e args r F (captures (used (m .store)) K) (put (new ∷ below) s m)
+      nobody : All (λ f. Handles e f → ⊥) (drop 1 F) → Operates e args r F other (ending r F m)
+
+    -- "A throw performs its builtin": Error, 1, with some message.
+    abbrev pub Throws : List Frame → Deed → M → Type 0
+    Throws F d m′ = (x : Error) × (v : Cell) × Operates (value 8 1) (v ∷ []) (failed x) F d m′
+
+    -- "a wrong count throws"
+    abbrev pub Performs : Cell → List Cell → List Frame → Deed → M → Type 0
+    Performs e args F d m′ = (Fits (countOf e) (markOf e) args × Operates e args (unhandled e args) F d m′)
+        ⊎ ((Fits (countOf e) (markOf e) args → ⊥) × Throws F d m′)
+
+    -- The Lucia frame r runs, at opcode op with operand x, and its place is past it; the frames "once its operands are
+    -- taken".
+    abbrev pub At : Running → (op x : ℕ) → Type 0
+    At r op x = (p : ℕ) × (r .place ≡ p + 1)
+        × (m .frames ≡ lucia (r .handle) p (r .locals) (r .stack) (r .handlers) ∷ r .below)
+        × (objectAt (m .store) (r .handle) ≡ here (closure (r .number) (r .upvalues)))
+        × (r .code ≡ codeAt (r .number)) × (getD (r .code .opcodes) p noOp ≡ record { number = op; operand = x })
+
+    abbrev pub taken : Running → List Cell → List Frame
+    taken r st = lucia (r .handle) (r .place) (r .locals) st (r .handlers) ∷ r .below
+
+  module _ (past : List Deed) (m : M) where
+    -- ---- A call of f that leaves the frames F, or `kept` if f is no function: "`ReturnCall` of a non-function throws
+    -- with its frame in place; a wrong argument count throws after the frame is gone". A resume adds "the frames that
+    -- its continuation's perform captured".
+    pub data Calls (f : Cell) (args : List Cell) (kept F : List Frame) : Deed → M → Type 0 where
+      begins : (c : ℕ) (us given : List Cell) (s : List Object) → f .tag ≡ 7
+          → objectAt (m .store) (f .number) ≡ here (closure c us)
+          → Fits (codeAt c .params) (codeAt c .variadic) args
+          → Passed (codeAt c .params) (codeAt c .variadic) args given (m .store) s
+          → Calls f args kept F other (put (new (f .number) (codeAt c .locals) given ∷ F) s m)
+      asksHost : f .tag ≡ 39
+          → Calls f args kept F other (put (host (f .number) (f .payload) (reverse args) [] ∷ F) (m .store) m)
+      asEffect : Effect f
+          → Calls f args kept F other (put (effectCallback f (reverse args) [] ∷ F) (m .store) m)
+      resumes : (v : Cell) (top : Frame) (rest : List Frame) → f .tag ≡ 23 → args ≡ v ∷ []
+          → From past (f .number) (top ∷ rest)
+          → Calls f args kept F other (put (gets v top ∷ rest ++ F) (m .store) m)
+      unfit : {d : Deed} {m′ : M} (c : ℕ) (us : List Cell) → f .tag ≡ 7
+          → objectAt (m .store) (f .number) ≡ here (closure c us)
+          → (Fits (codeAt c .params) (codeAt c .variadic) args → ⊥) → Throws m F d m′ → Calls f args kept F d m′
+      unfitValues : {d : Deed} {m′ : M} (K : List Frame) → f .tag ≡ 23 → Stored (m .store) (f .number) K
+          → (1 ≡ length args → ⊥) → Throws m F d m′ → Calls f args kept F d m′
+      noFunction : {d : Deed} {m′ : M} → (Callable (m .store) f → ⊥) → Throws m kept d m′ → Calls f args kept F d m′
+
+    -- The x arguments of an opcode's call lie on the stack, the last on top, and the function under them.
+    abbrev pub Calling : Running → ℕ → List Frame → Deed → M → Type 0
+    Calling r x F d m′ =
+        let st = r .stack in Calls (getD st x null) (reverse (take x st)) (taken m r (drop (x + 1) st)) F d m′
+
+    -- ---- A tick: "the opcodes and effect callbacks that a run carries out"
+    pub data Ticks : Deed → M → Type 0 where
+      stays : (r : Running) (op x p : ℕ) (l st : List Cell) → At m r op x → Plain op
+          → Ticks other (put (lucia (r .handle) p l st (r .handlers) ∷ r .below) (m .store) m)
+      makes : (r : Running) (op x p : ℕ) (l st : List Cell) (o : Object) → At m r op x → Plain op
+          → ((K : List Frame) → o ≡ continuation K → ⊥)
+          → Ticks other (put (lucia (r .handle) p l st (r .handlers) ∷ r .below) (m .store ++ (o ∷ [])) m)
+      registers : (r : Running) (t : ℕ) (e : Cell) (st : List Cell) (hs : List Handler) → At m r 49 t
+          → r .stack ≡ e ∷ st → Effect e → Registered e t (r .handlers) hs
+          → Ticks other (put (lucia (r .handle) (r .place) (r .locals) st hs ∷ r .below) (m .store) m)
+      noEffect : {d : Deed} {m′ : M} (r : Running) (t : ℕ) (v : Cell) (st : List Cell) → At m r 49 t
+          → r .stack ≡ v ∷ st → (Effect v → ⊥) → Throws m (taken m r st) d m′ → Ticks d m′
+      setsGlobal : (r : Running) (x g : ℕ) (v : Cell) (st : List Cell) → At m r 8 x → r .stack ≡ v ∷ st
+          → g ≡ getD (r .code .globals) x 0 → Ticks (sets g v) (setting g v (taken m r st) m)
+      returns : (r : Running) (x : ℕ) (v : Cell) (st : List Cell) → At m r 37 x → r .stack ≡ v ∷ st
+          → Ticks other (returning v (r .below) m)
+      throws : {d : Deed} {m′ : M} (r : Running) (op x n : ℕ) → At m r op x → Takes op n
+          → Throws m (taken m r (drop n (r .stack))) d m′ → Ticks d m′
+      calls : {d : Deed} {m′ : M} (r : Running) (x : ℕ) → At m r 36 x
+          → Calling r x (taken m r (drop (x + 1) (r .stack))) d m′ → Ticks d m′
+      tailCalls : {d : Deed} {m′ : M} (r : Running) (x : ℕ) → At m r 38 x → Calling r x (r .below) d m′ → Ticks d m′
+      performs : {d : Deed} {m′ : M} (e : Cell) (st hs : List Cell) (below : List Frame)
+          → m .frames ≡ effectCallback e st hs ∷ below → Performs m e (reverse st) below d m′ → Ticks d m′
+
+    -- ---- An answer for a callback, whose frame `self hs` has the word and handlers that "are put in"; "a tail call's
+    -- own frame is gone"
+    abbrev pub Replies : (self : List Cell → Frame) (hs : List Cell) (below : List Frame) → CallbackReturn → Deed → M
+        → Type 0
+    Replies self hs below (callWith f args new) d m′ =
+        (ks : List Cell) × PutIn [] new ks × Calls f args (self ks ∷ below) (self ks ∷ below) d m′
+    Replies self hs below (perform e args) d m′ = Performs m e args (self hs ∷ below) d m′
+    Replies self hs below (tailCall f args) d m′ = Calls f args below below d m′
+    Replies self hs below (tailPerform e args) d m′ = Performs m e args below d m′
+    Replies self hs below (returnIt v) d m′ = (d ≡ other) × (m′ ≡ returning v below m)
+    Replies self hs below (errorWith v) d m′ =
+        Operates m (value 8 1) (v ∷ []) (failed (luciaError v)) (self hs ∷ below) d m′
+    Replies self hs below (panicWith v) d m′ =
+        Operates m (value 8 2) (v ∷ []) (failed (luciaPanic v)) (self hs ∷ below) d m′
+
+    -- An accepted request, from this machine and wait to another machine and wait; `got` is the value that it gives.
+    abbrev pub Asks : (wait : Bool) → Request → Deed → M → Bool → (got : Cell) → Type 0
+    Asks b (start f args) d m′ b′ got =
+        (m .frames ≡ []) × (m .result ≡ running) × Calls f args [] [] d m′ × (b′ ≡ false)
+    Asks b (answer word fuel r) d m′ b′ got = (n w : ℕ) × (st hs : List Cell) × (below : List Frame) × (b ≡ true)
+        × (m .frames ≡ host n w st hs ∷ below)
+        × Replies (λ (new : List Cell). host n word st new) hs below r d m′ × (b′ ≡ false)
+    Asks b clear d m′ b′ got = (d ≡ other) × (m′ ≡ ending running [] m) × (b′ ≡ false)
+    Asks b (text page v) d m′ b′ got = (d ≡ other) × (m′ ≡ m) × (b′ ≡ b)
+    Asks b (bytes v) d m′ b′ got = (d ≡ other) × (m′ ≡ m) × (b′ ≡ b)
+    Asks b (setGlobal g v) d m′ b′ got = (d ≡ sets g v) × (m′ ≡ setting g v (m .frames) m) × (b′ ≡ b)
+    Asks b (getGlobal g) d m′ b′ got = (d ≡ other) × (m′ ≡ m) × (b′ ≡ b) × (got ≡ getD (m .globals) g null)
+    Asks b (setBuiltin g v) d m′ b′ got = (d ≡ other) × (b′ ≡ b)
+        × (m′ ≡ settingBuiltin g v m)
+    Asks b (getBuiltin g) d m′ b′ got = (d ≡ other) × (m′ ≡ m) × (b′ ≡ b) × (got ≡ getD (m .builtins) g null)
+
+  -- ---- The calls in turn. The steps of a run are ticks, one after the other, none after a result: "The frames after
+  -- each step follow by the rules". (Ticket 13: a turn is one more way through ticks, so one more clause of `Turn`.)
+  abbrev pub Run : List Step → (past : List Deed) → M → (now : List Deed) → M → Type 0
+  Run [] past m now m′ = (now ≡ past) × (m ≡ m′)
+  Run (s ∷ ss) past m now m′ = (d : Deed) × (s .before ≡ m) × (m .result ≡ running) × Ticks past m d (s .after)
+      × Run ss (d ∷ past) (s .after) now m′
+
+  -- How a run ends: ""Paused" is given exactly if all ticks are taken and no charge, end or host wait is due"; "Fuel is
+  -- tested after a step, never before"; or its next step is refused, by a number from 1 to 99.
+  pub data Ends (z : Sizes) (ticks : ℕ) (t : Trace) (m : M) : Type 0 where
+    done : answerOf t ≡ 100 → Over m → Ends z ticks t m
+    spent : answerOf t ≡ 101 → 0 < length (stepsOf t) → should-continue (fuelAfter t) ≡ false → Ends z ticks t m
+    paused : answerOf t ≡ 102 → length (stepsOf t) ≡ ticks → (Over m → ⊥) → (Awaits m → ⊥) → Ends z ticks t m
+    awaits : answerOf t ≡ 103 → Awaits m → Ends z ticks t m
+    refused : 0 < answerOf t → answerOf t < 100 → length (stepsOf t) < ticks → (Over m → ⊥) → (Awaits m → ⊥)
+        → outcome P z (nextAction P m (m .frames)) m ≡ stops (answerOf t) → Ends z ticks t m
+
+  -- An accepted request answers 0 or, an answer, "out of fuel" or "go on".
+  abbrev pub Accepts : Request → ℕ → Type 0
+  Accepts (answer word fuel r) n = (n ≡ 101) ⊎ (n ≡ 104)
+  Accepts (start f args) n = n ≡ 0
+  Accepts clear n = n ≡ 0
+  Accepts (text page v) n = n ≡ 0
+  Accepts (bytes v) n = n ≡ 0
+  Accepts (setGlobal g v) n = n ≡ 0
+  Accepts (getGlobal g) n = n ≡ 0
+  Accepts (setBuiltin g v) n = n ≡ 0
+  Accepts (getBuiltin g) n = n ≡ 0
+
+  -- A refused call has no step and leaves all as it was.
+  abbrev pub Nothing : (past : List Deed) → World → (now : List Deed) → Trace → Type 0
+  Nothing past w now t = (stepsOf t ≡ []) × (now ≡ past) × (w ≡ worldAfter t)
+
+  -- One call, lent the sizes z, that goes as the trace t: "Its steps are the accepted calls but runs, and the opcodes
+  -- and effect callbacks that a run carries out". A run while the host is awaited is out of turn, 11. Another call is
+  -- refused by a number from 1 to 99.
+  abbrev pub Turn : Sizes → Call → (past : List Deed) → World → (now : List Deed) → Trace → Type 0
+  Turn z (runs ticks fuel) past w now t = ((w .wait ≡ true) × (answerOf t ≡ 11) × Nothing past w now t)
+      ⊎ ((w .wait ≡ false) × (length (stepsOf t) ≤ ticks)
+      × Run (stepsOf t) past (w .machine) now (worldAfter t .machine)
+      × Ends z ticks t (worldAfter t .machine) × (worldAfter t .wait ≡ eqb (answerOf t) 103))
+  Turn z (asks q) past w now t = ((0 < answerOf t) × (answerOf t < 100) × Nothing past w now t)
+      ⊎ (Accepts q (answerOf t) × (length (stepsOf t) ≡ 1)
+      × (d : Deed) × (now ≡ d ∷ past)
+      × Asks past (w .machine) (w .wait) q d (worldAfter t .machine) (worldAfter t .wait) (givenOf t .value))
+  Turn z (loads image) past w now t = Nothing past w now t
+
+  -- "each lent the loaded image and the memory as the last call left it"
+  abbrev pub InTurn : List Lent → (past : List Deed) → World → (now : List Deed) → M → Type 0
+  InTurn [] past w now final = (now ≡ past) × (w .machine ≡ final)
+  InTurn (c ∷ cs) past w now final = let t = callOf P (c .sizes) (c .call) w in
+      (then : List Deed) × Turn (c .sizes) (c .call) past w then t × InTurn cs then (worldAfter t) now final
+
+-- What a load leaves: the outermost closure, whose n upvalues "start null", and all else empty or null.
+abbrev pub fresh : ℕ → M
+fresh n =
+    let none = replicate 256 null in
+    record { frames = []; store = closure 0 (replicate n null) ∷ []; globals = none; builtins = none; result = running }
+
+-- The call is no accepted load; none of the list is.
 abbrev pub RefusedLoad : Sizes → Call → Type 0
 RefusedLoad z (runs t fuel) = Unit {0}
 RefusedLoad z (asks q) = Unit {0}
 RefusedLoad z (loads image) = (P : Program) → load image z ≡ accepted P → ⊥
 
--- What demand 3 asks of a step, with the steps before it and the machine after the list.
-pub record Meets (P : Program) (past : List Step) (s : Step) (final : M) : Type 0 where
-  pub left : LeftBy (s .before .frames) (s .action)
-  pub performs : (e : Cell) (F : List Frame) → eventAt P s ≡ performing e F → Performed P e F (used (s .before .store)) (s .after)
-  pub resumes : (k : ℕ) (v : Cell) (F : List Frame) → eventAt P s ≡ resuming k v F → Resumed P k v F past (s .after)
-  pub others : (F : List Frame) → eventAt P s ≡ quiet F → Quiet F (s .after)
-  pub captures : (k : ℕ) (K : List Frame) → Made P k K s → Stored (final .store) k K
+abbrev pub NoLoads : List Lent → Type 0
+NoLoads cs = All (λ c. RefusedLoad (c .sizes) (c .call)) cs
 
--- Demand 3 of the steps of a list of calls, which lead from the loaded machine to `final`.
-pub record Demand3 (P : Program) (cs : List Call) (first : M) (steps : List Step) (final : M) : Type 0 where
-  pub leads : Leads P cs first steps final
-  pub each : (past rest : List Step) (s : Step) → steps ≡ past ++ s ∷ rest → Meets P past s final
-  pub continuations : (k : ℕ) (K : List Frame) → Stored (final .store) k K → Any (Made P k K) steps
-  pub globals : (g : ℕ) → g < 256 → getD (final .globals) g null ≡ lastSet g null steps
+-- Demand 3 of a list of calls, which lead from the loaded machine to `final`: "every continuation in the store holds
+-- exactly the frames that its perform captured. Globals are not rolled back".
+pub record Demand3 (P : Program) (cs : List Lent) (final : M) : Type 0 where
+  pub deeds : List Deed
+  pub starts : (loaded P .machine ≡ fresh (length (codeAt P 0 .captures))) × (loaded P .wait ≡ false)
+  pub turns : InTurn P cs [] (loaded P) deeds final
+  pub continuations : (k : ℕ) (K : List Frame) → Stored (final .store) k K → From deeds k K
+  pub captures : (k : ℕ) (K : List Frame) → From deeds k K → Stored (final .store) k K
+  pub globals : (g : ℕ) → g < 256 → getD (final .globals) g null ≡ lastSet g deeds

@@ -1,44 +1,195 @@
--- The rules meet what demand 3 asks of one step.
-use mathlib.Core.Path.{_≡_, refl, ap, _∙_}
-use mathlib.Core.List.{List, [], _∷_, _++_, append-assoc}
+-- The machine's rules for performs, throws and calls are those of demand 3.
+use mathlib.Core.Path.{_≡_, refl, sym, ap, _∙_}
+use mathlib.Core.List.{List, [], _∷_, _++_}
 use mathlib.Core.Logic.{_⊎_, inl, inr, ⊎-elim}
 use mathlib.Core.Bool.{Bool, true, false}
-use Prim.Native.Nat.{ℕ, suc, _+_}
+use Prim.Native.Nat.{ℕ, zero, suc, _+_, _%_, _≤_}
 use native.Mathlib.Omega.{arith}
-use lib.ListN.{set, drop}
-use lib.Dec.{eqb}
+use lib.ListN.{length, drop}
+use lib.Dec.{eqb, leb}
+use borrow.Author.Tests.{eqb-true, eqb-false, leb-true, eq-eqb as is, ne-eqb as isnt, le-leb as upTo}
+use Rattle.cells.specs.Le.{leAt}
 use Rattle.cells.specs.declared.Cell.{Cell}
-use Rattle.image.specs.Records.{if?}
-use Rattle.image.specs.Program.{Code}
-use Rattle.machine.specs.Values.{Program, codeOf, builtin, isEffect, equalEffects, Params, codeParams, effectParams, Error, callArguments, unOperator, binOperator, metaUnOperator, metaBinOperator, zeroDivisor, luciaError, luciaPanic, thrown, shown}
-use Rattle.machine.specs.Machine.{Frame, lucia, host, effectCallback, Object, closure, list, continuation, Result, M, withFrames, withStore, used, Lookup, here, absent, objectAt, checkArgs, wrongCount, Parsed, parse, parseArgs, holds, handlersOf, Found, found, nowhere, under, find, search, capture, performBy, throwError, performEffect, Function, isClosure, isCallback, isEffectCallback, isContinuation, isNone, closureFunction, continuationFunction, functionOf, give, putBack, resume, newFrame, callClosure, callFunction, returnValue}
-use Rattle.machine.specs.Opcodes.{Action, goes, jumps, makes, sets, setsBuiltin, calls, performs, throws, returns, clears, doing}
-use Rattle.machine.specs.Calls.{Step}
-use Rattle.machine.specs.Store.{at-one, at-append, at-keeps, at-new}
-use Rattle.machine.specs.Demand.{Event, performing, resuming, quiet, callEvent, eventOf, All, Any, Handles, underTop, Captured, Stored, Performed, handled, unhandled, Made, Gets, Resumed, Quiet, same, one, top, NoContinuation, LeftBy}
+use Rattle.image.specs.Records.{if?, both}
+use Rattle.image.specs.Effects.{same, sameEffect}
+use Rattle.machine.specs.Values.{Program, codeOf, builtin, bytesAt, isEffect, equalEffects, Params, codeParams, effectParams, Error, callArguments, unOperator, binOperator, metaUnOperator, metaBinOperator, zeroDivisor, luciaError, luciaPanic, thrown, shown, typeOf}
+use Rattle.machine.specs.Machine.{Handler, Frame, lucia, host, effectCallback, effects, targetOf, enter, Object, closure, list, continuation, Result, failed, M, withFrames, withStore, used, Lookup, here, absent, objectAt, checkArgs, wrongCount, parse, parseArgs, holds, handlersOf, Found, found, nowhere, under, find, search, capture, performBy, throwError, performEffect, Function, isClosure, isCallback, isEffectCallback, isContinuation, isNone, closureFunction, continuationFunction, functionOf, give, putBack, resume, newFrame, callClosure, callFunction, receive, returnValue}
+use Rattle.machine.specs.Opcodes.{callable}
+use Rattle.machine.specs.Calls.{without, distinct}
+use Rattle.machine.specs.Demand.{All, Any, Deed, captures, other, From, Same, countOf, markOf, Fits, Passed, Handles, Captured, Entered, Operates, handled, nobody, Throws, Performs, gets, bare, returning, Stored, Callable, Calls, begins, asksHost, asEffect, resumes, unfit, unfitValues, noFunction, PutIn}
 
+pub no : {A : Type 0} → false ≡ true → A
+no e = absurd (let z : _≡_ {A = ℕ} 0 1 = cc in omega arith)
+
+both-out : (a b : Bool) → both a b ≡ true → (a ≡ true) × (b ≡ true)
+unfolding both
+both-out true b h = (refl, h)
+both-out false b h = no h
+
+both-in : (a b : Bool) → a ≡ true → b ≡ true → both a b ≡ true
+unfolding both
+both-in a b p q = rw (p, q) refl
+
+-- ---- Equal effects
+same-true : (s t : List ℕ) → same s t ≡ true → s ≡ t
+unfolding same
+same-true [] [] h = refl
+same-true [] (y ∷ t) h = no h
+same-true (x ∷ s) [] h = no h
+same-true (x ∷ s) (y ∷ t) h =
+    let w = both-out (eqb x y) (same s t) h in
+    let a : x ≡ y = eqb-true x y (w .0) in
+    let b : s ≡ t = same-true s t (w .1) in
+    cc
+
+same-refl : (s : List ℕ) → same s s ≡ true
+unfolding same
+same-refl [] = refl
+same-refl (x ∷ s) = both-in (eqb x x) (same s s) (is x x refl) (same-refl s)
+
+module _ (P : Program) (a b : Cell) where
+  abbrev A : List ℕ
+  A = bytesAt P a
+
+  abbrev B : List ℕ
+  B = bytesAt P b
+
+  abbrev Named : Type 0
+  Named = (leAt 2 A 0 ≤ 2) ⊎ ((leAt 2 A 2 ≡ leAt 2 B 2) × (leAt 2 A 4 ≡ leAt 2 B 4) × (drop 6 A ≡ drop 6 B))
+
+  abbrev named : Bool → Bool
+  named k = if? k true (both (eqb (leAt 2 A 2) (leAt 2 B 2)) (both (eqb (leAt 2 A 4) (leAt 2 B 4)) (same (drop 6 A) (drop 6 B))))
+
+  named-out : (k : Bool) → leb (leAt 2 A 0) 2 ≡ k → named k ≡ true → Named
+  named-out true q h = inl (leb-true _ _ q)
+  named-out false q h =
+      let u = both-out (eqb (leAt 2 A 2) (leAt 2 B 2)) _ h in
+      let t = both-out (eqb (leAt 2 A 4) (leAt 2 B 4)) (same (drop 6 A) (drop 6 B)) (u .1) in
+      inr (eqb-true _ _ (u .0), eqb-true _ _ (t .0), same-true _ _ (t .1))
+
+  named-in : (k : Bool) → leb (leAt 2 A 0) 2 ≡ k → Named → named k ≡ true
+  named-in true q w = refl
+  named-in false q w =
+      ⊎-elim (λ l. no (sym q ∙ upTo _ _ l))
+      (λ s. both-in _ _ (is _ _ (s .0)) (both-in _ _ (is _ _ (s .1)) (rw (← (s .2)) (same-refl (drop 6 A))))) w
+
+  pub same-out : equalEffects P a b ≡ true → Same P a b
+  unfolding equalEffects sameEffect
+  same-out h = by (eqb (a .tag) 8) refl h
+    where
+      by : (c : Bool) → eqb (a .tag) 8 ≡ c → if? c (both (eqb (b .tag) 8) (eqb (a .number) (b .number))) (both (eqb (b .tag) 24) (sameEffect A B)) ≡ true → Same P a b
+      by true q h = let w = both-out (eqb (b .tag) 8) _ h in inl (eqb-true _ _ q, eqb-true _ _ (w .0), eqb-true _ _ (w .1))
+      by false q h =
+          let w = both-out (eqb (b .tag) 24) (sameEffect A B) h in
+          let v = both-out (eqb (leAt 2 A 0) (leAt 2 B 0)) _ (w .1) in
+          inr (eqb-false _ _ q, eqb-true _ _ (w .0), eqb-true _ _ (v .0), named-out (leb (leAt 2 A 0) 2) refl (v .1))
+
+  same-in : Same P a b → equalEffects P a b ≡ true
+  unfolding equalEffects sameEffect
+  same-in w =
+      ⊎-elim (λ s. rw (is (a .tag) 8 (s .0)) (both-in _ _ (is _ _ (s .1)) (is _ _ (s .2))))
+      (λ s. rw (isnt (a .tag) 8 (s .0)) (both-in _ _ (is _ _ (s .1)) (both-in _ _ (is _ _ (s .2)) (named-in (leb (leAt 2 A 0) 2) refl (s .3))))) w
+
+pub unsame : (P : Program) (a b : Cell) → equalEffects P a b ≡ false → Same P a b → ⊥
+unsame P a b q w = no (sym q ∙ same-in P a b w)
+
+-- ---- Counts
+fits-in : (n v : ℕ) (args : List Cell) → Fits n v args → checkArgs (record { count = n; variadic = eqb v 1 }) args ≡ true
+unfolding checkArgs
+fits-in n v args w = ⊎-elim (λ e. rw (is v 1 (e .0)) (upTo _ _ (e .1))) (λ e. rw (isnt v 1 (e .0)) (is _ _ (e .1))) w
+
+fits-out : (n v : ℕ) (args : List Cell) → checkArgs (record { count = n; variadic = eqb v 1 }) args ≡ true → Fits n v args
+unfolding checkArgs
+fits-out n v args h = by (eqb v 1) refl h
+  where
+    by : (b : Bool) → eqb v 1 ≡ b → if? b (leb n (length args)) (eqb n (length args)) ≡ true → Fits n v args
+    by true q h = inl (eqb-true _ _ q, leb-true _ _ h)
+    by false q h = inr (eqb-false _ _ q, eqb-true _ _ h)
+
+params-law : (P : Program) (e : Cell) → effectParams P e ≡ record { count = countOf P e; variadic = eqb (markOf P e) 1 }
+unfolding effectParams
+params-law P e = by (eqb (e .tag) 8)
+  where
+    by : (b : Bool) → _≡_ {A = Params} (if? b (record { count = 1; variadic = false }) (record { count = leAt 2 (bytesAt P e) 2; variadic = eqb (leAt 2 (bytesAt P e) 4) 1 }))
+        (record { count = if? b 1 (leAt 2 (bytesAt P e) 2); variadic = eqb (if? b 0 (leAt 2 (bytesAt P e) 4)) 1 })
+    by true = refl
+    by false = refl
+
+passed-law : (n v : ℕ) (args : List Cell) (s : List Object) → Passed n v args (parse (eqb v 1) n args s .args) s (parse (eqb v 1) n args s .store)
+unfolding parse
+passed-law n v args s = by (eqb v 1) refl
+  where
+    by : (b : Bool) → eqb v 1 ≡ b → Passed n v args (parse b n args s .args) s (parse b n args s .store)
+    by true q = inr (eqb-true _ _ q, refl, refl)
+    by false q = inl (eqb-false _ _ q, refl, refl)
+
+passed-effect : (P : Program) (e : Cell) (args : List Cell) (s : List Object) → Passed (countOf P e) (markOf P e) args (parseArgs (effectParams P e) args s .args) s (parseArgs (effectParams P e) args s .store)
+passed-effect P e args s = rw (params-law P e) (passed-law (countOf P e) (markOf P e) args s)
+
+-- ---- The search
 module _ (P : Program) (e : Cell) where
   -- Some x of the list is equal to e.
   abbrev Held : List Cell → Type 0
-  Held xs = Any (λ x. equalEffects P x e ≡ true) xs
+  Held xs = Any (λ x. Same P x e) xs
 
-  holds-true : (xs : List Cell) → holds P e xs ≡ true → Held xs
+  pub holds-true : (xs : List Cell) → holds P e xs ≡ true → Held xs
   unfolding holds
-  holds-true [] h = let z : _≡_ {A = ℕ} 0 1 = cc in omega arith
+  holds-true [] h = no h
   holds-true (x ∷ xs) h = by (equalEffects P x e) refl (holds-true xs) h
     where
       by : (b : Bool) → equalEffects P x e ≡ b → (holds P e xs ≡ true → Held xs) → if? b true (holds P e xs) ≡ true → Held (x ∷ xs)
-      by true q ih h = inl q
+      by true q ih h = inl (same-out P x e q)
       by false q ih h = inr (ih h)
 
-  holds-false : (xs : List Cell) → holds P e xs ≡ false → Held xs → ⊥
+  pub holds-false : (xs : List Cell) → holds P e xs ≡ false → Held xs → ⊥
   unfolding holds
   holds-false [] h m = m
   holds-false (x ∷ xs) h m = by (equalEffects P x e) refl (holds-false xs) h m
     where
       by : (b : Bool) → equalEffects P x e ≡ b → (holds P e xs ≡ false → Held xs → ⊥) → if? b true (holds P e xs) ≡ false → Held (x ∷ xs) → ⊥
-      by true q ih h m = let z : _≡_ {A = ℕ} 0 1 = cc in omega arith
-      by false q ih h m = ⊎-elim (λ t. let z : _≡_ {A = ℕ} 0 1 = cc in omega arith) (ih h) m
+      by true q ih h m = no (sym h)
+      by false q ih h m = ⊎-elim (unsame P x e q) (ih h) m
+
+  -- The frame's handlers are those that the search looks at.
+  lucia-in : (hs : List Handler) → Held (effects hs) → Any (λ h. Same P (h .effect) e) hs
+  unfolding effects
+  lucia-in [] w = w
+  lucia-in (h ∷ hs) w = ⊎-elim inl (λ v. inr (lucia-in hs v)) w
+
+  lucia-out : (hs : List Handler) → Any (λ h. Same P (h .effect) e) hs → Held (effects hs)
+  unfolding effects
+  lucia-out [] w = w
+  lucia-out (h ∷ hs) w = ⊎-elim inl (λ v. inr (lucia-out hs v)) w
+
+  handles-in : (f : Frame) → Held (handlersOf f) → Handles P e f
+  unfolding handlersOf
+  handles-in (lucia c p l s hs) w = lucia-in hs w
+  handles-in (host n x s hs) w = w
+  handles-in (effectCallback x s hs) w = w
+
+  handles-out : (f : Frame) → Handles P e f → Held (handlersOf f)
+  unfolding handlersOf
+  handles-out (lucia c p l s hs) w = lucia-out hs w
+  handles-out (host n x s hs) w = w
+  handles-out (effectCallback x s hs) w = w
+
+  -- The target is that of a handler for e.
+  target-law : (hs : List Handler) → Any (λ h. Same P (h .effect) e) hs → Any (λ h. Same P (h .effect) e × (targetOf P e hs ≡ h .target)) hs
+  unfolding targetOf
+  target-law [] w = w
+  target-law (h ∷ hs) w = by (equalEffects P (h .effect) e) refl (target-law hs) w
+    where
+      by : (b : Bool) → equalEffects P (h .effect) e ≡ b → (Any (λ x. Same P (x .effect) e) hs → Any (λ x. Same P (x .effect) e × (targetOf P e hs ≡ x .target)) hs)
+          → Any (λ x. Same P (x .effect) e) (h ∷ hs)
+          → (Same P (h .effect) e × (if? b (h .target) (targetOf P e hs) ≡ h .target)) ⊎ Any (λ x. Same P (x .effect) e × (if? b (h .target) (targetOf P e hs) ≡ x .target)) hs
+      by true q ih w = inl (same-out P (h .effect) e q, refl)
+      by false q ih w = ⊎-elim (λ t. absurd (unsame P (h .effect) e q t)) (λ v. inr (ih v)) w
+
+  enter-law : (k : Cell) (args : List Cell) (f : Frame) → Handles P e f → Entered P e k args f (enter P e k args f)
+  unfolding enter
+  enter-law k args (lucia c p l s hs) w = (targetOf P e hs, target-law hs w, refl)
+  enter-law k args (host n x s hs) w = refl
+  enter-law k args (effectCallback x s hs) w = refl
 
   -- What `find` tells of the frames.
   abbrev Finds : List Frame → Found → Type 0
@@ -56,13 +207,13 @@ module _ (P : Program) (e : Cell) where
   find-law (f ∷ fs) = by (holds P e (handlersOf f)) refl (find-law fs)
     where
       by : (b : Bool) → holds P e (handlersOf f) ≡ b → Finds fs (find P e fs) → Finds (f ∷ fs) (if? b (found [] f fs) (under f (find P e fs)))
-      by true q w = (refl, holds-true (handlersOf f) q, tt)
-      by false q w = find-under f fs (find P e fs) (holds-false (handlersOf f) q) w
+      by true q w = (refl, handles-in f (holds-true (handlersOf f) q), tt)
+      by false q w = find-under f fs (find P e fs) (λ v. holds-false (handlersOf f) q (handles-out f v)) w
 
   -- What `search` tells of the frames.
   abbrev pub Searches : List Frame → Found → Type 0
   Searches F (found above h below) = Captured P e F above h below
-  Searches F nowhere = All (λ f. Handles P e f → ⊥) (underTop F)
+  Searches F nowhere = All (λ f. Handles P e f → ⊥) (drop 1 F)
 
   search-under : (f : Frame) (fs : List Frame) (x : Found) → Finds fs x → Searches (f ∷ fs) (under f x)
   unfolding under
@@ -74,152 +225,7 @@ module _ (P : Program) (e : Cell) where
   search-law [] = tt
   search-law (f ∷ fs) = search-under f fs (find P e fs) (find-law fs)
 
-  -- Two ways to cut the frames at the highest handler are one.
-  between-one : (b b′ : List Frame) (h h′ : Frame) (below below′ : List Frame) → b ++ h ∷ below ≡ b′ ++ h′ ∷ below′ → Handles P e h → Handles P e h′ → All (λ f. Handles P e f → ⊥) b → All (λ f. Handles P e f → ⊥) b′ → b ≡ b′
-  between-one [] [] h h′ below below′ q w w′ n n′ = refl
-  between-one [] (x ∷ b′) h h′ below below′ q w w′ n n′ = let y : h ≡ x = cc in absurd (n′ .0 (rw y at w))
-  between-one (x ∷ b) [] h h′ below below′ q w w′ n n′ = let y : h′ ≡ x = cc in absurd (n .0 (rw y at w′))
-  between-one (x ∷ b) (y ∷ b′) h h′ below below′ q w w′ n n′ =
-      let t : b ++ h ∷ below ≡ b′ ++ h′ ∷ below′ = cc in
-      let z : b ≡ b′ = between-one b b′ h h′ below below′ t w w′ (n .1) (n′ .1) in
-      cc
-
-  -- A perform captures one list of frames.
-  pub captured-one : (F K K′ : List Frame) (h h′ : Frame) (below below′ : List Frame) → Captured P e F K h below → Captured P e F K′ h′ below′ → K ≡ K′
-  captured-one F K K′ h h′ below below′ c d =
-      let q = c .frames in
-      let r = d .frames in
-      let k = c .captured in
-      let l = d .captured in
-      let t : c .between ++ h ∷ below ≡ d .between ++ h′ ∷ below′ = cc in
-      let z : c .between ≡ d .between = between-one (c .between) (d .between) h h′ below below′ t (c .handles) (d .handles) (c .highest) (d .highest) in
-      cc
-
-all-middle : {A : Type 0} (Q : A → Type 0) (xs ys : List A) (x : A) → All Q (xs ++ x ∷ ys) → Q x
-all-middle Q [] ys x w = w .0
-all-middle Q (y ∷ xs) ys x w = all-middle Q xs ys x (w .1)
-
-captured-handled : (P : Program) (e : Cell) (F K : List Frame) (h : Frame) (below : List Frame) → Captured P e F K h below → All (λ f. Handles P e f → ⊥) (underTop F) → ⊥
-captured-handled P e F K h below c n = all-middle (λ f. Handles P e f → ⊥) (c .between) below h (rw (c .frames) at n) (c .handles)
-
--- What a perform captured stands in the store.
-pub captured-stands : (P : Program) (e : Cell) (F K : List Frame) (h : Frame) (below : List Frame) (k : ℕ) (after : M) → Captured P e F K h below → Performed P e F k after → Stored (after .store) k K
-captured-stands P e F K h below k after c (handled K′ h′ below′ args d q o) = o ∙ ap (λ (l : List Frame). here (continuation l)) (captured-one P e F K′ K h′ h below′ below d c)
-captured-stands P e F K h below k after c (unhandled n q) = absurd (captured-handled P e F K h below c n)
-
--- What demand 3 asks of a step with this event, from the store s.
-abbrev pub Asked : Program → List Step → List Object → M → Event → Type 0
-Asked P past s after (performing e F) = Performed P e F (used s) after
-Asked P past s after (resuming k v F) = Resumed P k v F past after
-Asked P past s after (quiet F) = Quiet F after
-
--- A continuation that is new in the store is the one that the event's perform captured.
-abbrev pub NewBy : Program → Event → List Object → ℕ → List Frame → Type 0
-NewBy P (performing e F) s k K = (k ≡ used s) × (h : Frame) × (below : List Frame) × Captured P e F K h below
-NewBy P (resuming h v F) s k K = ⊥
-NewBy P (quiet F) s k K = ⊥
-
--- What a step does, from the store s, with its event and the globals that it leaves.
-pub record Lawful (P : Program) (past : List Step) (s : List Object) (ev : Event) (gs : List Cell) (after : M) : Type 0 where
-  pub asked : Asked P past s after ev
-  pub grown : (k : ℕ) (K : List Frame) → Stored (after .store) k K → (Stored s k K) ⊎ NewBy P ev s k K
-  pub keeps : (k : ℕ) (K : List Frame) → Stored s k K → Stored (after .store) k K
-  pub globals : after .globals ≡ gs
-
--- Every continuation in the store was made by a step of the past.
-abbrev pub Known : Program → List Step → List Object → Type 0
-Known P past s = (k : ℕ) (K : List Frame) → Stored s k K → Any (Made P k K) past
-
--- A new closure or list is no continuation.
-pub no-continuation : (o : Object) (j : ℕ) (K : List Frame) → NoContinuation o → Stored (o ∷ []) j K → ⊥
-no-continuation (closure c us) j K n h = let q = at-one (closure c us) (continuation K) j h .1 in let z : _≡_ {A = ℕ} 0 1 = cc in omega arith
-no-continuation (list vs) j K n h = let q = at-one (list vs) (continuation K) j h .1 in let z : _≡_ {A = ℕ} 0 1 = cc in omega arith
-no-continuation (continuation K′) j K n h = n
-
-made-grown : (o : Object) (s : List Object) (k : ℕ) (K : List Frame) → NoContinuation o → Stored (s ++ (o ∷ [])) k K → Stored s k K
-made-grown o s k K n h = ⊎-elim (λ w. w) (λ w. absurd (no-continuation o (w .0) K n (w .2))) (at-append s (o ∷ []) k (continuation K) h)
-
--- Arguments add no continuation, and keep what is in the store.
-parse-grown : (b : Bool) (n : ℕ) (args : List Cell) (s : List Object) (k : ℕ) (K : List Frame) → Stored (parse b n args s .store) k K → Stored s k K
-unfolding parse
-parse-grown true n args s k K h = made-grown (list (drop n args)) s k K tt h
-parse-grown false n args s k K h = h
-
-parse-keeps : (b : Bool) (n : ℕ) (args : List Cell) (s : List Object) (k : ℕ) (K : List Frame) → Stored s k K → Stored (parse b n args s .store) k K
-unfolding parse
-parse-keeps true n args s k K h = at-keeps s (list (drop n args) ∷ []) k (continuation K) h
-parse-keeps false n args s k K h = h
-
-parse-new : (b : Bool) (n : ℕ) (args : List Cell) (s : List Object) (K : List Frame) → Stored (parse b n args (s ++ (continuation K ∷ [])) .store) (used s) K
-unfolding parse
-parse-new true n args s K = rw append-assoc (at-new s (continuation K) (list (drop n args) ∷ []))
-parse-new false n args s K = at-new s (continuation K) []
-
--- What a function found in the store is.
-abbrev FunctionFact : List Object → Function → Type 0
-FunctionFact s (isClosure h c) = Unit {0}
-FunctionFact s (isCallback n w) = Unit {0}
-FunctionFact s (isEffectCallback e) = Unit {0}
-FunctionFact s (isContinuation k K) = Stored s k K
-FunctionFact s isNone = Unit {0}
-
-closure-fact : (s : List Object) (k : ℕ) (o : Lookup) → FunctionFact s (closureFunction k o)
-unfolding closureFunction
-closure-fact s k (here (closure c us)) = tt
-closure-fact s k (here (list vs)) = tt
-closure-fact s k (here (continuation K)) = tt
-closure-fact s k absent = tt
-
-continuation-fact : (s : List Object) (k : ℕ) (o : Lookup) → objectAt s k ≡ o → FunctionFact s (continuationFunction k o)
-unfolding continuationFunction
-continuation-fact s k (here (closure c us)) q = tt
-continuation-fact s k (here (list vs)) q = tt
-continuation-fact s k (here (continuation K)) q = q
-continuation-fact s k absent q = tt
-
-function-law : (s : List Object) (v : Cell) → FunctionFact s (functionOf s v)
-unfolding functionOf
-function-law s v = by (isEffect v) (eqb (v .tag) 39) (eqb (v .tag) 7) (eqb (v .tag) 23)
-  where
-    o : Lookup
-    o = objectAt s (v .number)
-
-    by : (a b c d : Bool) → FunctionFact s (if? a (isEffectCallback v) (if? b (isCallback (v .number) (v .payload)) (if? c (closureFunction (v .number) o) (if? d (continuationFunction (v .number) o) isNone))))
-    by true b c d = tt
-    by false true c d = tt
-    by false false true d = closure-fact s (v .number) o
-    by false false false true = continuation-fact s (v .number) o refl
-    by false false false false = tt
-
-give-law : (v : Cell) (f : Frame) → Gets v f (give v f)
-unfolding give
-give-law v (lucia c p l s hs) = refl
-give-law v (host n w s hs) = refl
-give-law v (effectCallback e s hs) = refl
-
-return-law : (v : Cell) (F : List Frame) (m : M) → Quiet F (returnValue v F (withFrames F m))
-unfolding returnValue
-return-law v [] m = same refl
-return-law v (f ∷ fs) m = top _ refl
-
-return-kept : (v : Cell) (F : List Frame) (m : M) → (returnValue v F m .store ≡ m .store) × (returnValue v F m .globals ≡ m .globals)
-unfolding returnValue
-return-kept v [] m = (refl, refl)
-return-kept v (f ∷ fs) m = (refl, refl)
-
--- The globals once the action is done.
-abbrev pub setBy : Action → List Cell → List Cell
-setBy (goes F) gs = gs
-setBy (jumps F) gs = gs
-setBy (makes o F) gs = gs
-setBy (sets g v F) gs = set gs g v
-setBy (setsBuiltin g v F) gs = gs
-setBy (calls f args F) gs = gs
-setBy (performs e args F) gs = gs
-setBy (throws x F) gs = gs
-setBy (returns v F) gs = gs
-setBy clears gs = gs
-
+-- ---- Performs and throws
 -- The builtin that a throw performs takes what the throw shows.
 thrown-fits : (P : Program) (x : Error) → checkArgs (effectParams P (thrown x)) (shown x ∷ []) ≡ true
 unfolding thrown effectParams checkArgs
@@ -232,102 +238,167 @@ thrown-fits P zeroDivisor = refl
 thrown-fits P (luciaError v) = refl
 thrown-fits P (luciaPanic v) = refl
 
-module _ (P : Program) (past : List Step) where
-  -- A step that leaves the store is lawful if it meets its event.
-  steady : {s : List Object} {ev : Event} {gs : List Cell} {after : M} → Asked P past s after ev → after .store ≡ s → after .globals ≡ gs → Lawful P past s ev gs after
-  steady a q g = record { asked = a; grown = λ k K h. inl (rw q at h); keeps = λ k K h. rw q h; globals = g }
-
-  -- A rule that keeps the globals.
-  abbrev Keeping : M → Event → M → Type 0
-  Keeping m ev after = Lawful P past (m .store) ev (m .globals) after
-
-  capture-law : (p : Params) (e : Cell) (args : List Cell) (left : Result) (m : M) (x : Found) → Searches P e (m .frames) x → Keeping m (performing e (m .frames)) (capture P p e args left m x)
+module _ (P : Program) (m : M) where
+  capture-law : (e : Cell) (args : List Cell) (left : Result) (F : List Frame) (x : Found) → Searches P e F x → (d : Deed) × Operates P m e args left F d (capture P (effectParams P e) e args left (withFrames F m) x)
   unfolding capture
-  capture-law p e args left m nowhere w = steady (unhandled w refl) refl refl
-  capture-law p e args left m (found above h below) w = record {
-    asked = handled above h below _ w refl (parse-new (p .variadic) (p .count) args (m .store) above);
-    grown = λ k K g. ⊎-elim inl (λ n. inr (new k K (n .0) (n .1) (at-one (continuation above) (continuation K) (n .0) (n .2)))) (at-append (m .store) (continuation above ∷ []) k (continuation K) (parse-grown (p .variadic) (p .count) args _ k K g));
-    keeps = λ k K g. parse-keeps (p .variadic) (p .count) args _ k K (at-keeps (m .store) (continuation above ∷ []) k (continuation K) g);
-    globals = refl;
-  }
-    where
-      new : (k : ℕ) (K : List Frame) (j : ℕ) → k ≡ used (m .store) + j → (j ≡ 0) × (continuation above ≡ continuation K) → NewBy P (performing e (m .frames)) (m .store) k K
-      new k K j q o = let c : above ≡ K = cc in (omega (arith, o .0), h, below, rw c at w)
+  capture-law e args left F nowhere w = (other, nobody w)
+  capture-law e args left F (found above h below) w =
+      (captures (used (m .store)) above, handled above below h _ _ _ w (passed-effect P e args (m .store ++ (continuation above ∷ []))) (enter-law P e _ _ h (w .handles)))
 
-  throw-law : (n : ℕ) (x : Error) (m : M) → Keeping m (performing (thrown x) (m .frames)) (throwError (suc n) P x m)
+  pub throw-law : (x : Error) (F : List Frame) → (d : Deed) × Operates P m (thrown x) (shown x ∷ []) (failed x) F d (throwError 1 P x (withFrames F m))
   unfolding throwError performBy
-  throw-law n x m = rw (thrown-fits P x) (capture-law _ (thrown x) _ _ m (search P (thrown x) (m .frames)) (search-law P (thrown x) (m .frames)))
+  throw-law x F = rw (thrown-fits P x) (capture-law (thrown x) _ _ F (search P (thrown x) F) (search-law P (thrown x) F))
 
   -- A throw of an error that is not the script's performs Error.
-  error-law : (x : Error) (m : M) → thrown x ≡ builtin 1 → Keeping m (performing (builtin 1) (m .frames)) (throwError 1 P x m)
-  error-law x m q = rw q at (throw-law 0 x m)
+  pub error-law : (x : Error) (F : List Frame) → thrown x ≡ builtin 1 → (d : Deed) × Throws P m F d (throwError 1 P x (withFrames F m))
+  error-law x F q = let w = throw-law x F in (w .0, (x, shown x, rw q at (w .1)))
 
-  perform-law : (e : Cell) (args : List Cell) (m : M) → Keeping m (if? (checkArgs (effectParams P e) args) (performing e (m .frames)) (performing (builtin 1) (m .frames))) (performEffect P e args m)
+  pub perform-law : (e : Cell) (args : List Cell) (F : List Frame) → (d : Deed) × Performs P m e args F d (performEffect P e args (withFrames F m))
   unfolding performEffect performBy thrown
-  perform-law e args m = by (checkArgs (effectParams P e) args)
+  perform-law e args F = by (checkArgs (effectParams P e) args) refl
     where
-      by : (b : Bool)
-          → Keeping m (if? b (performing e (m .frames)) (performing (builtin 1) (m .frames)))
-          (if? b (capture P (effectParams P e) e args (Result.unhandled e args) m (search P e (m .frames))) (throwError 1 P (wrongCount (effectParams P e) args) m))
-      by true = capture-law (effectParams P e) e args _ m (search P e (m .frames)) (search-law P e (m .frames))
-      by false = error-law _ m refl
+      by : (b : Bool) → checkArgs (effectParams P e) args ≡ b
+          → (d : Deed) × Performs P m e args F d (if? b (capture P (effectParams P e) e args (Result.unhandled e args) (withFrames F m) (search P e F)) (throwError 1 P (wrongCount (effectParams P e) args) (withFrames F m)))
+      by true q = let w = capture-law e args (Result.unhandled e args) F (search P e F) (search-law P e F) in (w .0, inl (fits-out (countOf P e) (markOf P e) args (rw (params-law P e) at q), w .1))
+      by false q = let w = error-law (wrongCount (effectParams P e) args) F refl in (w .0, inr ((λ f. no (sym q ∙ rw (params-law P e) (fits-in (countOf P e) (markOf P e) args f))), w .1))
 
-  -- A step of the past captured at least its top frame.
-  top-captured : (past : List Step) (k : ℕ) → Any (Made P k []) past → ⊥
-  top-captured [] k w = w
-  top-captured (s ∷ ss) k w = ⊎-elim (λ m. let c = m .captures .captured in let z : _≡_ {A = ℕ} 0 1 = cc in omega arith) (top-captured ss k) w
+-- ---- Functions
+module _ (s : List Object) (f : Cell) where
+  abbrev at : Lookup
+  at = objectAt s (f .number)
 
-  put-law : (k : ℕ) (K : List Frame) (v : Cell) (m : M) → Any (Made P k K) past → Resumed P k v (m .frames) past (withFrames (putBack v K ++ m .frames) m)
-  unfolding putBack
-  put-law k [] v m w = absurd (top-captured past k w)
-  put-law k (f ∷ fs) v m w = record { top = f; rest = fs; given = give v f; made = w; gets = give-law v f; frames = refl }
+  -- What the value is as a function.
+  abbrev pub Is : Function → Type 0
+  Is (isClosure h c) = (f .tag ≡ 7) × (h ≡ f .number) × (us : List Cell) × (at ≡ here (closure c us))
+  Is (isCallback n w) = (f .tag ≡ 39) × (n ≡ f .number) × (w ≡ f .payload)
+  Is (isEffectCallback e) = (f .tag % 16 ≡ 8) × (e ≡ f)
+  Is (isContinuation k K) = (f .tag ≡ 23) × (k ≡ f .number) × (at ≡ here (continuation K))
+  Is isNone = Unit {0}
 
-  closure-law : (h : ℕ) (c : Code) (args : List Cell) (m : M) → Keeping m (if? (checkArgs (codeParams c) args) (quiet (m .frames)) (performing (builtin 1) (m .frames))) (callClosure P h c args m)
-  unfolding callClosure thrown
-  closure-law h c args m = by (checkArgs (codeParams c) args)
+  closure-is : (o : Lookup) → at ≡ o → f .tag ≡ 7 → Is (closureFunction (f .number) o)
+  unfolding closureFunction
+  closure-is (here (closure c us)) q t = (t, refl, us, q)
+  closure-is (here (list vs)) q t = tt
+  closure-is (here (continuation K)) q t = tt
+  closure-is absent q t = tt
+
+  continuation-is : (o : Lookup) → at ≡ o → f .tag ≡ 23 → Is (continuationFunction (f .number) o)
+  unfolding continuationFunction
+  continuation-is (here (closure c us)) q t = tt
+  continuation-is (here (list vs)) q t = tt
+  continuation-is (here (continuation K)) q t = (t, refl, q)
+  continuation-is absent q t = tt
+
+  pub function-is : Is (functionOf s f)
+  unfolding functionOf
+  function-is = by (isEffect f) (eqb (f .tag) 39) (eqb (f .tag) 7) (eqb (f .tag) 23) refl refl refl refl
     where
-      p : Params
-      p = codeParams c
+      by : (a b c d : Bool) → isEffect f ≡ a → eqb (f .tag) 39 ≡ b → eqb (f .tag) 7 ≡ c → eqb (f .tag) 23 ≡ d
+          → Is (if? a (isEffectCallback f) (if? b (isCallback (f .number) (f .payload)) (if? c (closureFunction (f .number) at) (if? d (continuationFunction (f .number) at) isNone))))
+      by true b c d p q r t = (eqb-true _ _ p, refl)
+      by false true c d p q r t = (eqb-true _ _ q, refl, refl)
+      by false false true d p q r t = closure-is at refl (eqb-true _ _ r)
+      by false false false true p q r t = continuation-is at refl (eqb-true _ _ t)
+      by false false false false p q r t = tt
 
-      a : Parsed
-      a = parseArgs p args (m .store)
+  callable-out : Callable s f → callable (functionOf s f) ≡ true
+  unfolding functionOf callable closureFunction continuationFunction
+  callable-out w =
+      ⊎-elim (λ e. rw (is (f .tag % 16) 8 e) refl)
+      (⊎-elim (λ e. rw (off 39 refl e, ap (λ (t : ℕ). eqb t 39) e) refl)
+      (⊎-elim (λ e. rw (off 23 refl (e .0), ap (λ (t : ℕ). eqb t 39) (e .0), ap (λ (t : ℕ). eqb t 7) (e .0), ap (λ (t : ℕ). eqb t 23) (e .0), e .2) refl)
+      (λ e. rw (off 7 refl (e .0), ap (λ (t : ℕ). eqb t 39) (e .0), ap (λ (t : ℕ). eqb t 7) (e .0), e .3) refl))) w
+    where
+      off : (k : ℕ) → isEffect (record { tag = k; number = f .number; payload = f .payload }) ≡ false → f .tag ≡ k → isEffect f ≡ false
+      off k n e = rw e n
 
-      by : (b : Bool)
-          → Keeping m (if? b (quiet (m .frames)) (performing (builtin 1) (m .frames)))
-          (if? b (withStore (newFrame h c (a .args) ∷ m .frames) (a .store) m) (throwError 1 P (wrongCount p args) m))
-      by true = record {
-        asked = one _ refl;
-        grown = λ k K h. inl (parse-grown (p .variadic) (p .count) args (m .store) k K h);
-        keeps = parse-keeps (p .variadic) (p .count) args (m .store);
-        globals = refl;
-      }
-      by false = error-law _ m refl
+  pub uncallable : callable (functionOf s f) ≡ false → Callable s f → ⊥
+  uncallable h w = no (sym h ∙ callable-out w)
 
-  call-law : (f : Function) (v : Cell) (args : List Cell) (m : M) → Known P past (m .store) → FunctionFact (m .store) f → Keeping m (callEvent P f args (m .frames)) (callFunction P f v args m)
-  unfolding callFunction callEvent resume thrown
-  call-law (isClosure h c) x args m known fact = closure-law h (codeOf P c) args m
-  call-law (isCallback n w) x args m known fact = steady (one _ refl) refl refl
-  call-law (isEffectCallback e) x args m known fact = steady (one _ refl) refl refl
-  call-law (isContinuation k K) x [] m known fact = error-law _ m refl
-  call-law (isContinuation k K) x (v ∷ []) m known fact = steady (put-law k K v m (known k K fact)) refl refl
-  call-law (isContinuation k K) x (v ∷ w ∷ vs) m known fact = error-law _ m refl
-  call-law isNone x args m known fact = error-law _ m refl
+-- ---- Calls and returns
+gets-law : (v : Cell) (f : Frame) → give v f ≡ gets v f
+unfolding give
+gets-law v (lucia c p l s hs) = refl
+gets-law v (host n w s hs) = refl
+gets-law v (effectCallback e s hs) = refl
 
-  -- Every action that leaves what it should is lawful.
-  pub doing-law : (d : Action) (m : M) → Known P past (m .store) → LeftBy (m .frames) d → Lawful P past (m .store) (eventOf P (m .store) d) (setBy d (m .globals)) (doing P d m)
-  unfolding doing eventOf
-  doing-law (goes F) m known left = steady (same refl) refl refl
-  doing-law (jumps F) m known left = steady (same refl) refl refl
-  doing-law (makes o F) m known left = record {
-    asked = same refl;
-    grown = λ k K h. inl (made-grown o (m .store) k K (left .0) h);
-    keeps = λ k K h. at-keeps (m .store) (o ∷ []) k (continuation K) h;
-    globals = refl;
-  }
-  doing-law (sets g v F) m known left = steady (same refl) refl refl
-  doing-law (setsBuiltin g v F) m known left = steady (same refl) refl refl
-  doing-law (calls f args F) m known left = call-law (functionOf (m .store) f) f args (withFrames F m) known (function-law (m .store) f)
-  doing-law (performs e args F) m known left = perform-law e args (withFrames F m)
-  doing-law (throws x F) m known left = throw-law 0 x (withFrames F m)
-  doing-law (returns v F) m known left = steady (return-law v F m) (return-kept v F (withFrames F m) .0) (return-kept v F (withFrames F m) .1)
-  doing-law clears m known left = steady (same refl) refl refl
+pub returned-law : (v : Cell) (F : List Frame) (m : M) → returnValue v F (withFrames F m) ≡ returning v F m
+unfolding returnValue receive
+returned-law v [] m = refl
+returned-law v (f ∷ F) m = ap (λ (g : Frame). withFrames (g ∷ F) m) (by f)
+  where
+    by : (f : Frame) → receive v f ≡ bare (gets v f)
+    by (lucia c p l s hs) = refl
+    by (host n w s hs) = refl
+    by (effectCallback e s hs) = refl
+
+-- What is known of the past: each continuation of the store comes from it, with at least one frame.
+pub record Known (past : List Deed) (s : List Object) : Type 0 where
+  pub known : (k : ℕ) (K : List Frame) → Stored s k K → From past k K
+  pub some : (k : ℕ) → From past k [] → ⊥
+
+module _ (P : Program) (past : List Deed) (m : M) (known : Known past (m .store)) (f : Cell) (args : List Cell) (kept F : List Frame) where
+  abbrev Done : Function → Type 0
+  Done g = (d : Deed) × Calls P past m f args kept F d (callFunction P g f args (withFrames F m))
+
+  closure-law : (c : ℕ) (us : List Cell) → f .tag ≡ 7 → objectAt (m .store) (f .number) ≡ here (closure c us) → Done (isClosure (f .number) c)
+  unfolding callFunction callClosure thrown
+  closure-law c us t q = by (checkArgs (codeParams (codeOf P c)) args) refl
+    where
+      by : (b : Bool) → checkArgs (codeParams (codeOf P c)) args ≡ b → (d : Deed) × Calls P past m f args kept F d (if? b (let a = parseArgs (codeParams (codeOf P c)) args (m .store) in withStore (newFrame (f .number) (codeOf P c) (a .args) ∷ F) (a .store) (withFrames F m)) (throwError 1 P (wrongCount (codeParams (codeOf P c)) args) (withFrames F m)))
+      by true h = (other, begins c us _ _ t q (fits-out _ _ args h) (passed-law (codeOf P c .params) (codeOf P c .variadic) args (m .store)))
+      by false h = let w = error-law P m (wrongCount (codeParams (codeOf P c)) args) F refl in (w .0, unfit c us t q (λ k. no (sym h ∙ fits-in _ _ args k)) (w .1))
+
+  resume-law : (K : List Frame) → f .tag ≡ 23 → Stored (m .store) (f .number) K → Done (isContinuation (f .number) K)
+  unfolding callFunction resume putBack thrown
+  resume-law K t q = by args refl K q
+    where
+      by : (vs : List Cell) → args ≡ vs → (K : List Frame) → Stored (m .store) (f .number) K → (d : Deed) × Calls P past m f args kept F d (resume P K vs (withFrames F m))
+      by [] e K q = let w = error-law P m (callArguments 1 false 0) F refl in (w .0, unfitValues K t q (λ n. omega (arith, ap length e, n)) (w .1))
+      by (v ∷ []) e [] q = absurd (known .some _ (known .known _ _ q))
+      by (v ∷ []) e (x ∷ K) q = (other, rw (gets-law v x) (resumes v x K t e (known .known _ _ q)))
+      by (v ∷ u ∷ vs) e K q = let w = error-law P m (callArguments 1 false (length (v ∷ u ∷ vs))) F refl in (w .0, unfitValues K t q (λ n. omega (arith, ap length e, n)) (w .1))
+
+  pub call-law : (g : Function) → functionOf (m .store) f ≡ g → Is (m .store) f g → (g ≡ isNone → kept ≡ F) → Done g
+  unfolding callFunction thrown callable
+  call-law (isClosure h c) q i k = rw (i .1) (closure-law c (i .2) (i .0) (i .3))
+  call-law (isCallback n w) q i k = (other, rw (i .1, i .2) (asksHost (i .0)))
+  call-law (isEffectCallback e) q i k = (other, rw (i .1) (asEffect (i .0)))
+  call-law (isContinuation h K) q i k = resume-law K (i .0) (i .2)
+  call-law isNone q i k = rw (k refl) (let w = error-law P m (metaUnOperator 0 (typeOf f)) F refl in (w .0, noFunction (uncallable (m .store) f (ap callable q)) (w .1)))
+
+-- ---- An answer's handlers
+module _ (P : Program) where
+  abbrev all : List Cell → List Cell → List Cell
+  all [] es = es
+  all (x ∷ seen) es = without P x (all seen es)
+
+  all-none : (seen : List Cell) → all seen [] ≡ []
+  unfolding without
+  all-none [] = refl
+  all-none (x ∷ seen) = ap (without P x) (all-none seen)
+
+  all-next : (seen : List Cell) (e : Cell) (es : List Cell) → all seen (e ∷ es) ≡ if? (holds P e seen) (all seen es) (e ∷ all seen es)
+  unfolding holds without
+  all-next [] e es = refl
+  all-next (x ∷ seen) e es = ap (without P x) (all-next seen e es) ∙ by (holds P e seen) (equalEffects P x e) refl
+    where
+      by : (b c : Bool) → equalEffects P x e ≡ c → without P x (if? b (all seen es) (e ∷ all seen es)) ≡ if? (if? c true b) (without P x (all seen es)) (e ∷ without P x (all seen es))
+      by true true q = refl
+      by true false q = refl
+      by false true q = rw q refl
+      by false false q = rw q refl
+
+  put-all : (seen es : List Cell) (n : ℕ) → length es ≤ n → PutIn P seen es (distinct P n (all seen es))
+  unfolding distinct
+  put-all seen [] zero h = refl
+  put-all seen [] (suc n) h = rw (all-none seen) refl
+  put-all seen (e ∷ es) zero h = absurd (omega arith)
+  put-all seen (e ∷ es) (suc n) h = rw (all-next seen e es) (by (put-all seen es (suc n)) (put-all (e ∷ seen) es n) (holds P e seen) refl)
+    where
+      by : (length es ≤ suc n → PutIn P seen es (distinct P (suc n) (all seen es))) → (length es ≤ n → PutIn P (e ∷ seen) es (distinct P n (all (e ∷ seen) es))) → (b : Bool) → holds P e seen ≡ b → PutIn P seen (e ∷ es) (distinct P (suc n) (if? b (all seen es) (e ∷ all seen es)))
+      by a b true q = inl (holds-true P e seen q, a (omega (arith, h)))
+      by a b false q = inr (holds-false P e seen q, distinct P n (all (e ∷ seen) es), refl, b (omega (arith, h)))
+
+  pub put-law : (new : List Cell) → PutIn P [] new (distinct P (length new) new)
+  put-law new = put-all [] new (length new) (omega arith)

@@ -1,6 +1,6 @@
 -- Form is closed under the rules: every call of the host but an accepted load leads from a world in form to one in form, so every world that calls lead to is in form.
 use mathlib.Core.Path.{_≡_, refl, _∙_}
-use mathlib.Core.List.{List, [], _∷_}
+use mathlib.Core.List.{List, [], _∷_, map}
 use mathlib.Core.Bool.{Bool, true, false}
 use Prim.Native.Nat.{ℕ, zero, suc, _-_, _≤_}
 use native.Mathlib.Omega.{arith}
@@ -18,7 +18,7 @@ use Rattle.image.specs.Accepted.{accepted-fine}
 use Rattle.machine.specs.Values.{Program, codeOf}
 use Rattle.machine.specs.Machine.{Frame, lucia, host, effectCallback, Result, running, returned, failed, unhandled, M, framesCost, used, resultCost}
 use Rattle.machine.specs.Opcodes.{Action, goes, jumps, makes, sets, setsBuiltin, calls, performs, throws, returns, clears, doing, Taken, takes, refuses, nextAction}
-use Rattle.machine.specs.Calls.{Sizes, handlersLeft, Outcome, does, stops, judge, outcome, World, world, Trace, worldAfter, Turn, isDone, isHost, isReady, turnOf, paceOf, charge, goesOn, noTicks, tick, run, Request, start, answer, clear, text, bytes, setGlobal, getGlobal, setBuiltin, getBuiltin, fit, requestAction, requestWorld, endOf, asked, loadedMachine, loaded, loadOf, programOf, load, Call, runs, asks, loads, loadTrace, callOf, callsOf}
+use Rattle.machine.specs.Calls.{Sizes, handlersLeft, Outcome, does, stops, judge, outcome, World, world, Trace, worldAfter, Turn, isDone, isHost, isReady, turnOf, paceOf, charge, goesOn, noTicks, tick, run, Request, start, answer, clear, text, bytes, setGlobal, getGlobal, setBuiltin, getBuiltin, fit, requestAction, requestWorld, endOf, asked, loadedMachine, loaded, loadOf, programOf, load, Call, runs, asks, loads, loadTrace, callOf, callsOf, lent}
 use Rattle.machine.specs.Demand.{All, RefusedLoad}
 use Rattle.machine.specs.StepLaws.{if-cases, doing-kept, Fits, LuciaTop, luciaTop, StaysOn, step-law, accepted-step}
 use Rattle.machine.specs.RunLaws.{charged}
@@ -236,7 +236,7 @@ module _ (P : Program) (z : Sizes) where
         by (refused n) e = h
         by (accepted R) e = absurd (r R e)
 
-    calls-fit : (cs : List Call) → All (RefusedLoad z) cs → (w : World) → WorldFits P z w → WorldFits P z (callsOf P z cs w)
+    calls-fit : (cs : List Call) → All (RefusedLoad z) cs → (w : World) → WorldFits P z w → WorldFits P z (callsOf P (map (lent z) cs) w)
     unfolding callsOf
     calls-fit [] r w h = h
     calls-fit (c ∷ cs) r w h = calls-fit cs (r .1) (worldAfter (callOf P z c w)) (call-fits c (r .0) w h)
@@ -285,5 +285,5 @@ load-form P z image e =
     }
 
 -- Every world that calls lead to from an accepted load is in form.
-pub calls-form : (P : Program) (z : Sizes) (image : List ℕ) → load image z ≡ accepted P → z .live ≤ 4096 → (cs : List Call) → All (RefusedLoad z) cs → WorldFits P z (callsOf P z cs (loaded P))
+pub calls-form : (P : Program) (z : Sizes) (image : List ℕ) → load image z ≡ accepted P → z .live ≤ 4096 → (cs : List Call) → All (RefusedLoad z) cs → WorldFits P z (callsOf P (map (lent z) cs) (loaded P))
 calls-form P z image e small cs r = calls-fit P z (accepted-fine (P .image) (P .codes) (loaded-as P z image e .parsed)) small cs r (loaded P) (load-form P z image e)

@@ -22,8 +22,8 @@ use Rattle.image.specs.declared.OperandKind.the-variants.{Target}
 use Rattle.machine.specs.Values.{Program, codeOf, isNull, isEffect, equalEffects, matchEffectHandler, effectParams, Computed, computes, fails, unary, binary}
 use Rattle.machine.specs.Machine.{Handler, Frame, lucia, host, effectCallback, Object, closure, list, continuation, M, Lookup, here, absent, objectAt, effects, handlersOf, functionOf}
 use Rattle.machine.specs.Opcodes.{Action, clears, doing, Taken, takes, refuses, Running, withTop, withTwo, computed, reaches, captured, loadConst, Operands, operands, tooFew, operandsOf, callable, callTaken, buildList, popJump, jumpOrPop, registered, registerHandler, checkEffect, between, opcodeAction, closureAction, nextAction}
-use Rattle.machine.specs.Calls.{Sizes, topHandlers, handlersLeft, Outcome, does, stops, judge, outcome, World, Step, Trace, worldAfter, stepsOf, run, CallbackReturn, callWith, perform, tailCall, tailPerform, returnIt, errorWith, panicWith, Request, start, answer, clear, text, bytes, setGlobal, getGlobal, setBuiltin, getBuiltin, fit, answerAction, answered, idle, requestAction, requestWorld, endOf, asked, loadedMachine, loaded, load, Call, runs, asks, loads, loadTrace, callOf, callsOf}
-use Rattle.machine.specs.Demand.{All, RefusedLoad}
+use Rattle.machine.specs.Calls.{Lent, Sizes, topHandlers, handlersLeft, Outcome, does, stops, judge, outcome, World, Step, Trace, worldAfter, stepsOf, run, CallbackReturn, callWith, perform, tailCall, tailPerform, returnIt, errorWith, panicWith, Request, start, answer, clear, text, bytes, setGlobal, getGlobal, setBuiltin, getBuiltin, fit, answerAction, answered, idle, requestAction, requestWorld, endOf, asked, loadedMachine, loaded, load, Call, runs, asks, loads, loadTrace, callOf, callsOf}
+use Rattle.machine.specs.Demand.{All, RefusedLoad, NoLoads}
 use Rattle.machine.specs.StepLaws.{if-cases}
 use Rattle.machine.specs.RunLaws.{Lawful, Leads, run-law}
 use Rattle.machine.specs.Formed.{FrameFormed, Shaped, Formed, LeftFormed, doing-shaped}
@@ -317,10 +317,10 @@ module _ (P : Program) (z : Sizes) (a : Accepted (P .image) (P .codes)) where
       by (refused n) e = k
       by (accepted Q) e = absurd (h Q e)
 
-  calls-keep : (cs : List Call) (w : World) → All (RefusedLoad z) cs → Formed P (w .machine) → Formed P (callsOf P z cs w .machine)
-  unfolding callsOf
-  calls-keep [] w h k = k
-  calls-keep (c ∷ cs) w h k = calls-keep cs (worldAfter (callOf P z c w)) (h .1) (call-keeps c w (h .0) k)
+calls-keep : (P : Program) (a : Accepted (P .image) (P .codes)) (cs : List Lent) (w : World) → NoLoads cs → Formed P (w .machine) → Formed P (callsOf P cs w .machine)
+unfolding callsOf
+calls-keep P a [] w h k = k
+calls-keep P a (c ∷ cs) w h k = calls-keep P a cs (worldAfter (callOf P (c .sizes) (c .call) w)) (h .1) (call-keeps P (c .sizes) a (c .call) w (h .0) k)
 
 -- The machine that an accepted load makes is in form.
 pub loaded-formed : (P : Program) → Accepted (P .image) (P .codes) → Formed P (loadedMachine P)
@@ -328,5 +328,5 @@ unfolding loadedMachine
 loaded-formed P a = record { shaped = record { frames = tt; store = ((omega (arith, a .some), length-replicate (length (codeOf P 0 .captures)) null), tt) }; few = omega arith }
 
 -- Every machine that a list of calls leads to from an accepted image is in form.
-pub formed-law : (P : Program) (z : Sizes) → parse (P .image) ≡ accepted (P .codes) → (cs : List Call) → All (RefusedLoad z) cs → Formed P (callsOf P z cs (loaded P) .machine)
-formed-law P z e cs h = let a = accepted-fine (P .image) (P .codes) e in calls-keep P z a cs (loaded P) h (loaded-formed P a)
+pub formed-law : (P : Program) → parse (P .image) ≡ accepted (P .codes) → (cs : List Lent) → NoLoads cs → Formed P (callsOf P cs (loaded P) .machine)
+formed-law P e cs h = let a = accepted-fine (P .image) (P .codes) e in calls-keep P a cs (loaded P) h (loaded-formed P a)

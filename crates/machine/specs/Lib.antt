@@ -27,3 +27,5 @@ pub mod Local
 -- Rows that the checker computes: P1 to P12, and those that the oracle writes.
 pub mod Seen
 pub mod Rows
+-- One history worked by the rules of Demand: row P9.
+pub mod Worked

@@ -11,7 +11,7 @@ use Rattle.image.specs.Build.{number, recordOf, opcode, codeWith, code}
 use Rattle.image.specs.Records.{Answer, accepted}
 use Rattle.machine.specs.Values.{cell, bool, int, listAt, closureAt, continuationAt, callArguments}
 use Rattle.machine.specs.Machine.{Frame, lucia, Object, closure, list, continuation, Result, running, returned, failed, unhandled}
-use Rattle.machine.specs.Calls.{Call, runs, asks, start, clear, nothing, gives}
+use Rattle.machine.specs.Calls.{Call, runs, asks, start, clear, setBuiltin, nothing, gives}
 use Rattle.machine.specs.Seen.{Named, Left, named, handler, sizes, leaves, sees, every-rule}
 
 -- ---- Opcodes and constants
@@ -20,6 +20,9 @@ Pop = opcode 0 0
 
 abbrev LoadConst : ℕ → List ℕ
 LoadConst = opcode 6
+
+abbrev LoadGlobal : ℕ → List ℕ
+LoadGlobal = opcode 4
 
 abbrev StoreGlobal : ℕ → List ℕ
 StoreGlobal = opcode 8
@@ -82,13 +85,13 @@ abbrev row : List ℕ → List Call → List Left → Row
 row image calls left = record { image = image; calls = calls; left = left }
 
 -- the outermost closure is started, or a continuation; a run of so many ticks with so much fuel
-abbrev starts : Call
+abbrev pub starts : Call
 starts = asks (start (closureAt 0) [])
 
-abbrev resumes : ℕ → List Cell → Call
+abbrev pub resumes : ℕ → List Cell → Call
 resumes k args = asks (start (continuationAt k) args)
 
-abbrev runsFor : ℕ → ℕ → Call
+abbrev pub runsFor : ℕ → ℕ → Call
 runsFor ticks fuel = runs ticks (with (pos fuel))
 
 -- what an accepted start or clear leaves, and what a run leaves
@@ -118,7 +121,7 @@ abbrev started : Left
 started = asked (bare 0 0 ∷ []) running (A ∷ [])
 
 -- the effect that is constant 0 of this code
-abbrev effectOf : ℕ → Cell
+abbrev pub effectOf : ℕ → Cell
 effectOf c = cell 24 c 0
 
 -- P1 null constant, `Return`, fuel 68: 1 left, done
@@ -196,13 +199,13 @@ returnsContinuation inner = code (LoadConst 0 ++ RegisterHandler 5 ++ LoadConst 
 
 -- P9 resume with 5, then 7: two equal stacks but for that value; C keeps its handler
 --     code C() { LoadConst effect f()  RegisterHandler 0  LoadConst true  LoadConst effect e()  Call 0  Return }
-abbrev p9frame : List Cell → Frame
+abbrev pub p9frame : List Cell → Frame
 p9frame values = lucia 1 5 [] (values ++ (bool true ∷ [])) (handler (effectOf 1) 0 0 ∷ [])
 
-abbrev p9store : List Object
+abbrev pub p9store : List Object
 p9store = A ∷ B ∷ continuation (p9frame [] ∷ []) ∷ []
 
-abbrev p9 : Row
+abbrev pub p9 : Row
 p9 = row (returnsContinuation (code (LoadConst 0 ++ RegisterHandler 0 ++ LoadConst 1 ++ LoadConst 2 ++ Call0 ++ Return) (f ++ trueConst ++ e) []))
     (starts ∷ runsFor 100 1000 ∷ asks clear ∷ resumes 2 (int 5 ∷ []) ∷ asks clear ∷ resumes 2 (int 7 ∷ []) ∷ runsFor 100 1000 ∷ [])
     (started
@@ -240,8 +243,20 @@ abbrev p12 : Row
 p12 = row (codeWith 2 1 Return [] [] []) (asks (start (closureAt 0) (int 10 ∷ int 20 ∷ [])) ∷ [])
     (asked (lucia 0 0 [] (listAt 1 ∷ int 20 ∷ int 10 ∷ []) [] ∷ []) running (A ∷ list [] ∷ []) ∷ [])
 
+-- a global that was set comes before the builtin of its name, here 7
+--     code main() { LoadConst 5  StoreGlobal g0  LoadGlobal g0  Return }
+abbrev sevens : List Named
+sevens = named 0 (int 7) ∷ []
+
+abbrev globalFirst : Row
+globalFirst = row (codeWith 0 0 (LoadConst 0 ++ StoreGlobal 0 ++ LoadGlobal 0 ++ Return) (number 2 0) (intConst 5) [])
+    (asks (setBuiltin 0 (int 7)) ∷ starts ∷ runsFor 100 1000 ∷ [])
+    (leaves 0 1 empty nothing [] running (A ∷ []) [] sevens false 64
+    ∷ leaves 0 1 empty nothing (bare 0 0 ∷ []) running (A ∷ []) [] sevens false 64
+    ∷ leaves 100 4 (with (pos 935)) nothing [] (returned (int 5)) (A ∷ []) (named 0 (int 5) ∷ []) sevens false 64 ∷ [])
+
 abbrev table : List Row
-table = p1 ∷ p1jump ∷ p2 ∷ p3 ∷ p4 ∷ p5 ∷ p6 ∷ p7 ∷ p8 ∷ p9 ∷ p10 ∷ p11 ∷ p12 ∷ []
+table = p1 ∷ p1jump ∷ p2 ∷ p3 ∷ p4 ∷ p5 ∷ p6 ∷ p7 ∷ p8 ∷ p9 ∷ p10 ∷ p11 ∷ p12 ∷ globalFirst ∷ []
 
 -- what the row's calls lead to, from its bytes
 abbrev seenOf : Row → Answer (List Left)
