@@ -27,7 +27,7 @@ withLoan f (Held fuel) = f fuel
 withLoan f (Refused n) = refused n
 
 -- A request, as a call; what is none is refused with its number, or with 11 where it is out of turn.
-abbrev pub asking : (inTurn : Bool) → Answer Request → Answer Call
+unfoldable pub asking : (inTurn : Bool) → Answer Request → Answer Call
 asking b (accepted q) = accepted (asks q)
 asking b (refused k) = refused (if? b k 11)
 
@@ -38,7 +38,7 @@ sending w s fuel = asking (inTurn s w) (requestOf fuel s)
 -- The machine's call that it is, in the world w; or the number with which it is refused, where what the host sends is
 -- none: a fuel loan that is no 5 bytes (6), values that are no whole cells, an answer of no kind or with values that
 -- its kind does not use (5, out of turn 11).
-abbrev pub callFor : World → Exported → Answer Call
+unfoldable pub callFor : World → Exported → Answer Call
 callFor w (lucia-load image) = accepted (loadCall image)
 callFor w (lucia-start low high args) = sending w (starting (cellOf low high) args) noFuel
 callFor w (lucia-run fuel ticks) = withLoan (λ (f : Fuel). accepted (runs ticks f)) (read fuel)
@@ -53,16 +53,20 @@ callFor w (lucia-set-builtin g low high) = accepted (asks (setBuiltin g (cellOf 
 callFor w (lucia-get-builtin g) = accepted (asks (getBuiltin g))
 
 -- What it is in a history: a call that is lent memory of these sizes, or none.
-abbrev pub standsFor : Sizes → Answer Call → List Lent
+unfoldable pub standsFor : Sizes → Answer Call → List Lent
 standsFor z (accepted q) = lent z q ∷ []
 standsFor z (refused k) = []
 
 -- The call is no accepted load.
-abbrev pub NoLoad : Sizes → Answer Call → Type 0
+unfoldable pub NoLoad : Sizes → Answer Call → Type 0
 NoLoad z (accepted q) = RefusedLoad z q
 NoLoad z (refused k) = Unit {0}
 
 -- ---- Histories
+-- Memory of which live stack and store are lent longer, behind the same bytes.
+unfoldable pub lentLonger : Memory → (live store : List ℕ) → Memory
+lentLonger m live store = memory (m .state) (m .live ++ live) (m .store ++ store)
+
 -- Memory m to which a history led: an accepted load, then calls, each lent the image and the memory that the last one
 -- left. `past` are the machine's calls that they stand for, the last one last.
 pub data Led (image : List ℕ) : List Lent → Memory → Type 0 where
@@ -70,10 +74,10 @@ pub data Led (image : List ℕ) : List Lent → Memory → Type 0 where
   calls : {past : List Lent} {m : Memory} → Led image past m
       → (c : Exported) (r : Answered c) (n : Memory) → Allows image c m r n
       → NoLoad (sizes m) (callFor (worldIn m) c) → Led image (past ++ standsFor (sizes m) (callFor (worldIn m) c)) n
-  -- Between two calls live stack and store may be lent longer, behind the same bytes. (Ticket 9: a job that was saved
-  -- in this history and is read into other memory is one more constructor.)
+  -- Between two calls memory may be lent longer. (Ticket 9: a job that was saved in this history and is read into other
+  -- memory is one more constructor.)
   longer : {past : List Lent} {m : Memory} → Led image past m → (live store : List ℕ)
-      → Led image past (memory (m .state) (m .live ++ live) (m .store ++ store))
+      → Led image past (lentLonger m live store)
 
 -- ---- What is claimed of each call
 -- Its fuel loan: only a run and an answer have one.
@@ -91,7 +95,7 @@ fuelLent (lucia-set-builtin g low high) = []
 fuelLent (lucia-get-builtin g) = []
 
 -- What it answers, of a number, ticks taken, what is given, and its fuel loan as it is left.
-abbrev pub answerBy : (c : Exported) → (code ticks : ℕ) → Given → (fuel : List ℕ) → Answered c
+unfoldable pub answerBy : (c : Exported) → (code ticks : ℕ) → Given → (fuel : List ℕ) → Answered c
 answerBy (lucia-load image) code t given fuel = gotOf code (given .value)
 answerBy (lucia-start low high args) code t given fuel = code
 answerBy (lucia-run lent ticks) code t given fuel = (ranOf code t, fuel)
@@ -109,12 +113,12 @@ abbrev pub answerFor : (c : Exported) → Trace → Answered c
 answerFor c t = answerBy c (answerOf t) (length (stepsOf t)) (givenOf t) (write (fuelLent c) (fuelAfter t))
 
 -- The answer of a call that is refused with n before it begins: nothing else is given, and its fuel is as it was.
-abbrev pub refusalOf : (c : Exported) → ℕ → Answered c
+unfoldable pub refusalOf : (c : Exported) → ℕ → Answered c
 refusalOf c n = answerBy c n 0 nothing (fuelLent c)
 
 -- The number n refuses the call before it begins; a run may also be refused at an opcode or effect callback, and then
 -- has begun.
-abbrev pub Refuses : Call → ℕ → Type 0
+unfoldable pub Refuses : Call → ℕ → Type 0
 Refuses (runs t fuel) n = n ≡ 11
 Refuses (asks q) n = (0 < n) × (n < 100)
 Refuses (loadCall image) n = (0 < n) × (n < 100)
@@ -133,7 +137,7 @@ pub record LeftOut (c : Exported) (k : ℕ) (m : Memory) (r : Answered c) (n : M
   pub refuses : n ≡ m
 
 -- The call in the world w.
-abbrev pub DoesAs : Program → Sizes → World → (c : Exported) → Answer Call → Memory → Answered c → Memory → Type 0
+unfoldable pub DoesAs : Program → Sizes → World → (c : Exported) → Answer Call → Memory → Answered c → Memory → Type 0
 DoesAs P z w c (accepted q) m r n = Does P z w c q m r n
 DoesAs P z w c (refused k) m r n = LeftOut c k m r n
 

@@ -41,8 +41,9 @@ use Rattle.runs.specs.declared.Ran.{Ran}
 use Rattle.turns.specs.Turned.{SentDone, AnswerDone, AnswerBy}
 use Rattle.asks.specs.Asks.{cellOf, answer as answerAsked, given, Leaves, Asked, loading, loadAnswer, LoadLeft, Loaded}
 use Rattle.asks.specs.declared.Got.{Got}
+use Rattle.asks.specs.declared.Part.{Part}
 use Rattle.asks.specs.Ready.{ready}
-use Rattle.demands.specs.Called.{Memory, sizes, entered, Exported, lucia-load, lucia-start, lucia-run, lucia-answer, lucia-clear, lucia-text, lucia-bytes, lucia-set-global, lucia-get-global, lucia-set-builtin, lucia-get-builtin, Answered, Allows, callFor, asking, sending, withLoan, fuelLent, answerBy, answerFor, refusalOf, Refuses, Does, DoesAs, NoLoad}
+use Rattle.demands.specs.Called.{Memory, sizes, entered, Exported, lucia-load, lucia-start, lucia-run, lucia-answer, lucia-clear, lucia-text, lucia-bytes, lucia-set-global, lucia-get-global, lucia-set-builtin, lucia-get-builtin, Answered, Allows, callFor, asking, sending, withLoan, fuelLent, answerBy, answerFor, refusalOf, Refuses, DoesAs, NoLoad}
 
 -- ---- What the host sends with a start or an answer
 -- a request is out of turn where what was sent is
@@ -119,7 +120,7 @@ ended P (getBuiltin g) w m = inl refl
 
 -- so one whose answer is the number of a refusal does nothing
 nothing-done : (P : Program) (z : Sizes) (q : Request) (w : World) → Refuses (asks q) (answerOf (callOf P z (asks q) w)) → Nothing (callOf P z (asks q) w)
-unfolding callOf asked stepsOf answerOf givenOf
+unfolding Refuses callOf asked stepsOf answerOf givenOf
 nothing-done P z q w h = by (outcome P z (requestAction P q w) (w .machine)) h
   where
     by : (o : Outcome) → Refuses (asks q) (answerOf (asked P q w o)) → Nothing (asked P q w o)
@@ -172,7 +173,12 @@ unfolding callOf
 out-of-turn-does P z t fuel w e = rw e refl
 
 -- a call that does nothing and leaves its fuel answers as one that is refused
-nothing-answered : (c : Exported) (t : Trace) → Nothing t → write (fuelLent c) (fuelAfter t) ≡ fuelLent c → answerFor c t ≡ refusalOf c (answerOf t)
+abbrev NothingAnswered : Type 0
+NothingAnswered = (c : Exported) (t : Trace) → Nothing t → write (fuelLent c) (fuelAfter t) ≡ fuelLent c
+    → answerFor c t ≡ refusalOf c (answerOf t)
+
+nothing-answered : NothingAnswered
+unfolding refusalOf
 nothing-answered c t n f = ap (λ (s : List Step). answerBy c (answerOf t) (length s) (givenOf t) (write (fuelLent c) (fuelAfter t))) (n .0)
     ∙ ap (λ (g : Given). answerBy c (answerOf t) 0 g (write (fuelLent c) (fuelAfter t))) (n .1)
     ∙ ap (answerBy c (answerOf t) 0 nothing) f
@@ -180,6 +186,15 @@ nothing-answered c t n f = ap (λ (s : List Step). answerBy c (answerOf t) (leng
 no-loan : (s : List ℕ) (f : Fuel) → s ≡ [] → write s f ≡ s
 unfolding write
 no-loan s f e = rw e refl
+
+-- a start, and setting a builtin, answer a number and nothing else
+start-answers : (low high : ℕ) (args : List ℕ) (t : Trace) → answerFor (lucia-start low high args) t ≡ answerOf t
+unfolding answerBy
+start-answers low high args t = refl
+
+set-builtin-answers : (g low high : ℕ) (t : Trace) → answerFor (lucia-set-builtin g low high) t ≡ answerOf t
+unfolding answerBy
+set-builtin-answers g low high t = refl
 
 -- ---- Memory
 same-memory : (m n : Memory) → (n .state ≡ m .state) × (n .live ≡ m .live) × (n .store ≡ m .store) → n ≡ m
@@ -209,6 +224,10 @@ pub record Called (image : List ℕ) (P : Program) (w : World) (c : Exported) (q
   pub next : Finds image P n (worldBy P (sizes m) q w)
   pub sizes : sizes n ≡ sizes m
 
+-- so it is of an exported call, where its contract allows it
+abbrev pub Claimed : List ℕ → Program → World → Memory → (c : Exported) → Answered c → Memory → Type 0
+Claimed image P w m c r n = Allows image c m r n → Called image P w c (callFor w c) m r n
+
 module _ {image : List ℕ} {P : Program} (parsed : parse (P .image) ≡ accepted (P .codes)) (same : P .image ≡ image) where
   -- a world in form that memory holds is the one that the next call finds
   pub finds : (w : World) (m : Memory) → length (m .state) ≡ 8256 → Holds w (cells (m .state)) (liveOf (m .live)) (storeOf (m .store)) → WorldFits P (sizes m) w → Finds image P m w
@@ -217,7 +236,8 @@ module _ {image : List ℕ} {P : Program} (parsed : parse (P .image) ≡ accepte
       let x = exact-out P w (cells (m .state)) (liveOf (m .live)) (storeOf (m .store)) h f in
       ap (λ (i : List ℕ). entry i (m .state) (m .live) (m .store)) (sym same) ∙ rw (eq-eqb (length (m .state)) 8256 n, parsed, x .1, x .2, x .3)
 
-  module _ (w : World) (m : Memory) (found : Finds image P m w) where
+  -- where memory m holds the world w; `nothing-answered` is given, so that these laws do not rest on it
+  module _ (w : World) (m : Memory) (found : Finds image P m w) (answered : NothingAnswered) where
     abbrev goes-as : Call → Trace
     goes-as q = callOf P (sizes m) q w
 
@@ -229,21 +249,27 @@ module _ {image : List ℕ} {P : Program} (parsed : parse (P .image) ≡ accepte
         finds (worldAfter (goes-as q)) n (s .0 ∙ k .size) h (rw (same-sizes m n s) f)
 
     -- what is claimed of a call of the machine's, where what is refused does nothing and leaves its fuel
-    does-as : (c : Exported) (q : Call) (r : Answered c) (n : Memory) → r ≡ answerFor c (goes-as q) → (Refuses q (answerOf (goes-as q)) → n ≡ m) → (Refuses q (answerOf (goes-as q)) → Nothing (goes-as q))
-        → (Refuses q (answerOf (goes-as q)) → Bytes (fuelLent c) → write (fuelLent c) (fuelAfter (goes-as q)) ≡ fuelLent c) → Does P (sizes m) w c q m r n
-    does-as c q r n a e s f = record { answers = a; refuses = e; spares = λ h b. a ∙ nothing-answered c (goes-as q) (s h) (f h b) }
+    does-as : (c : Exported) (q : Call) (r : Answered c) (n : Memory) → r ≡ answerFor c (goes-as q)
+        → (Refuses q (answerOf (goes-as q)) → n ≡ m) → (Refuses q (answerOf (goes-as q)) → Nothing (goes-as q))
+        → (Refuses q (answerOf (goes-as q)) → Bytes (fuelLent c)
+        → write (fuelLent c) (fuelAfter (goes-as q)) ≡ fuelLent c)
+        → DoesAs P (sizes m) w c (accepted q) m r n
+    unfolding DoesAs
+    does-as c q r n a e s f =
+        record { answers = a; refuses = e; spares = λ h b. a ∙ answered c (goes-as q) (s h) (f h b) }
 
     -- a call that leaves every byte, and the world
     stays : (c : Exported) (q : Answer Call) (r : Answered c) (n : Memory) → n ≡ m → worldBy P (sizes m) q w ≡ w → DoesAs P (sizes m) w c q m r n → Called image P w c q m r n
     stays c q r n e k d = record { does = d; next = rw (e, k) found; sizes = ap (λ (x : Memory). sizes x) e }
 
     none : (c : Exported) (k : ℕ) (r : Answered c) (n : Memory) → r ≡ refusalOf c k → (n .state ≡ m .state) × (n .live ≡ m .live) × (n .store ≡ m .store) → Called image P w c (refused k) m r n
+    unfolding DoesAs
     none c k r n a h = let e = same-memory m n h in stays c (refused k) r n e refl (record { answers = a; refuses = e })
 
     -- ---- Requests that run nothing
     asked-called : (c : Exported) (q : Request) (r : Answered c) (n : Memory) (code : ℕ) → fuelLent c ≡ [] → (code ≡ answerOf (goes-as (asks q)) → r ≡ answerFor c (goes-as (asks q)))
         → Asked q image (m .state) (m .live) (m .store) code (n .state) × (n .live ≡ m .live) × (n .store ≡ m .store) → Called image P w c (accepted (asks q)) m r n
-    unfolding answerAsked
+    unfolding Refuses answerAsked
     asked-called c q r n code lent f a =
         let l : Leaves (sizes m) q (record { program = P; world = w }) (m .state) (m .live) (m .store) (n .state) = rw found at (a .0 .leaves) in
         let s : Lengths m n = (l .len, ap length (a .1), ap length (a .2)) in
@@ -259,7 +285,7 @@ module _ {image : List ℕ} {P : Program} (parsed : parse (P .image) ≡ accepte
 
     -- ---- A load that is refused
     load-called : (own : List ℕ) (r : Got) (n : Memory) → RefusedLoad (sizes m) (loads own) → Loaded own (m .state) (m .live) (m .store) r (n .state) (n .store) → n .live ≡ m .live → Called image P w (lucia-load own) (accepted (loads own)) m r n
-    unfolding loading loadAnswer callOf loadTrace worldAfter answerOf givenOf stepsOf
+    unfolding answerBy loading loadAnswer callOf loadTrace worldAfter answerOf givenOf stepsOf
     load-called own r n l a e = by (load own (sizes m)) refl (rw i at (a .answers)) (rw i at (a .leaves))
       where
         i : loading own (m .state) (m .live) (m .store) ≡ load own (sizes m)
@@ -279,11 +305,14 @@ module _ {image : List ℕ} {P : Program} (parsed : parse (P .image) ≡ accepte
 
       sent-called : ((q : Request) → requestOf fuel s ≡ accepted q → fuelOf q ≡ fuel) → a ≡ answerFor c sends → (stepsOf sends ≡ [] → write (fuelLent c) (fuelAfter sends) ≡ fuelLent c)
           → SentDone sends r (m .state) (m .live) (m .store) (n .state) (n .live) (n .store) → Called image P w c (asking (inTurn s w) (requestOf fuel s)) m a n
-      unfolding stepsOf givenOf answerOf
+      unfolding asking stepsOf givenOf answerOf
       sent-called brings answers spares d = by (requestOf fuel s) refl
         where
           refusal : (k : ℕ) → sends ≡ ends k nothing fuel w → a ≡ refusalOf c k
-          refusal k e = answers ∙ nothing-answered c sends (ap stepsOf e, ap givenOf e) (spares (ap stepsOf e)) ∙ ap (λ (t : Trace). refusalOf c (answerOf t)) e
+          refusal k e =
+              answers
+              ∙ answered c sends (ap stepsOf e, ap givenOf e) (spares (ap stepsOf e))
+              ∙ ap (λ (t : Trace). refusalOf c (answerOf t)) e
 
           by : (x : Answer Request) → requestOf fuel s ≡ x → Called image P w c (asking (inTurn s w) x) m a n
           by (accepted q) h =
@@ -300,61 +329,136 @@ module _ {image : List ℕ} {P : Program} (parsed : parse (P .image) ≡ accepte
               let e = sent-none P (sizes m) w fuel s k h in
               none c (if? (inTurn s w) k 11) a n (refusal (if? (inTurn s w) k 11) e) (d .refuses (ap stepsOf e))
 
-    start-called : (low high : ℕ) (args : List ℕ) (r : ℕ) (n : Memory) → Allows image (lucia-start low high args) m r n → Called image P w (lucia-start low high args) (callFor w (lucia-start low high args)) m r n
+    start-called : (low high : ℕ) (args : List ℕ) (r : ℕ) (n : Memory)
+        → Claimed image P w m (lucia-start low high args) r n
+    unfolding callFor
     start-called low high args r n a =
         let s : Sent = starting (cellOf low high) args in
-        let d : SentDone (sentTrace P (sizes m) noFuel s w) r (m .state) (m .live) (m .store) (n .state) (n .live) (n .store) = rw found at (a .does) in
-        sent-called (lucia-start low high args) s noFuel r n r (start-fuel (cellOf low high) args) (d .answers) (λ _. no-loan [] _ refl) d
+        let t : Trace = sentTrace P (sizes m) noFuel s w in
+        let d : SentDone t r (m .state) (m .live) (m .store) (n .state) (n .live) (n .store) = rw found at (a .does) in
+        sent-called (lucia-start low high args) s noFuel r n r (start-fuel (cellOf low high) args)
+        (d .answers ∙ sym (start-answers low high args t)) (λ _. no-loan [] _ refl) d
 
-    answer-called : (fuel : List ℕ) (kind word low high : ℕ) (args handlers : List ℕ) (r : ℕ × List ℕ) (n : Memory) → Allows image (lucia-answer fuel kind word low high args handlers) m r n
-        → Called image P w (lucia-answer fuel kind word low high args handlers) (callFor w (lucia-answer fuel kind word low high args handlers)) m r n
-    unfolding withFuel
-    answer-called fuel kind word low high args handlers r n a = by (read fuel) (a .does)
-      where
-        c : Exported
-        c = lucia-answer fuel kind word low high args handlers
+    module _ (fuel : List ℕ) (kind word low high : ℕ) (args handlers : List ℕ) (r : ℕ × List ℕ) (n : Memory) where
+      abbrev answerCall : Exported
+      answerCall = lucia-answer fuel kind word low high args handlers
 
-        s : Sent
-        s = answering kind word (cellOf low high) args handlers
+      abbrev answerSent : Sent
+      answerSent = answering kind word (cellOf low high) args handlers
 
-        by : (l : Loan) → AnswerBy (sizes m) s (fueled l (entered image m)) (r .0) (m .state) (m .live) (m .store) fuel (n .state) (n .live) (n .store) (r .1)
-            → Called image P w c (withLoan (sending w s) l) m r n
-        by (Held f) a =
-            let d : AnswerDone (sentTrace P (sizes m) f s w) (r .0) (m .state) (m .live) (m .store) fuel (n .state) (n .live) (n .store) (r .1) = rw found at a in
-            sent-called c s f r n (r .0) (answer-fuel f kind word (cellOf low high) args handlers)
-            (λ j. (d .sent .answers j, d .charges j)) (λ e. sym (d .charges) ∙ d .spares e) (d .sent)
-        by (Refused k) a = none c k r n (λ j. (a .0 j, a .4 j)) (a .1, a .2, a .3)
+      -- where the loan holds fuel
+      answer-does : (f : Fuel)
+          → AnswerDone (sentTrace P (sizes m) f answerSent w) (r .0)
+          (m .state) (m .live) (m .store) fuel (n .state) (n .live) (n .store) (r .1)
+          → Called image P w answerCall (sending w answerSent f) m r n
+      unfolding answerBy
+      answer-does f d =
+          sent-called answerCall answerSent f r n (r .0) (answer-fuel f kind word (cellOf low high) args handlers)
+          (λ j. (d .sent .answers j, d .charges j)) (λ e. sym (d .charges) ∙ d .spares e) (d .sent)
+
+      answer-called : Claimed image P w m answerCall r n
+      unfolding callFor refusalOf answerBy withFuel
+      answer-called a = by (read fuel) (a .does)
+        where
+          by : (l : Loan)
+              → AnswerBy (sizes m) answerSent (fueled l (entered image m)) (r .0)
+              (m .state) (m .live) (m .store) fuel (n .state) (n .live) (n .store) (r .1)
+              → Called image P w answerCall (withLoan (sending w answerSent) l) m r n
+          by (Held f) a = answer-does f (rw found at a)
+          by (Refused k) a = none answerCall k r n (λ j. (a .0 j, a .4 j)) (a .1, a .2, a .3)
 
     -- ---- A run
-    run-called : (fuel : List ℕ) (ticks : ℕ) (r : Ran × List ℕ) (n : Memory) → Allows image (lucia-run fuel ticks) m r n → Called image P w (lucia-run fuel ticks) (callFor w (lucia-run fuel ticks)) m r n
-    unfolding withFuel stepsOf givenOf fuelAfter
-    run-called fuel ticks r n a = by (read fuel) refl (a .does)
-      where
-        by : (l : Loan) → read fuel ≡ l → RunBy (sizes m) ticks (fueled l (entered image m)) (r .0) (m .state) (m .live) (m .store) fuel (n .state) (n .live) (n .store) (r .1)
-            → Called image P w (lucia-run fuel ticks) (withLoan (λ (f : Fuel). accepted (runs ticks f)) l) m r n
-        by (Held f) q a =
-            let d : RunDone (goes-as (runs ticks f)) (w .wait) (r .0) (m .state) (m .live) (m .store) fuel (n .state) (n .live) (n .store) (r .1) = rw found at a in
-            let waits = out-of-turn P (sizes m) ticks f w in
-            record {
-              does = does-as (lucia-run fuel ticks) (runs ticks f) r n (λ j. (d .answers j, d .charges j)) (λ h. same-memory m n (d .outOfTurn (waits h)))
-                  (λ h. let e = out-of-turn-does P (sizes m) ticks f w (waits h) in (ap stepsOf e, ap givenOf e))
-                  (λ h b. ap (λ (t : Trace). write fuel (fuelAfter t)) (out-of-turn-does P (sizes m) ticks f w (waits h)) ∙ write-read fuel f b q);
-              next = after (runs ticks f) tt n (d .lengths) (d .holds);
-              sizes = same-sizes m n (d .lengths);
-            }
-        by (Refused k) q a = none (lucia-run fuel ticks) k r n (λ j. (a .0 j, a .4 j)) (a .1, a .2, a .3)
+    module _ (fuel : List ℕ) (ticks : ℕ) (r : Ran × List ℕ) (n : Memory) where
+      -- where the loan holds fuel
+      run-does : (f : Fuel) → read fuel ≡ Held f
+          → RunDone (goes-as (runs ticks f)) (w .wait) (r .0)
+          (m .state) (m .live) (m .store) fuel (n .state) (n .live) (n .store) (r .1)
+          → Called image P w (lucia-run fuel ticks) (accepted (runs ticks f)) m r n
+      unfolding answerBy Refuses stepsOf givenOf fuelAfter
+      run-does f q d =
+          let waits = out-of-turn P (sizes m) ticks f w in
+          let stays = out-of-turn-does P (sizes m) ticks f w in
+          record {
+            does = does-as (lucia-run fuel ticks) (runs ticks f) r n (λ j. (d .answers j, d .charges j))
+                (λ h. same-memory m n (d .outOfTurn (waits h)))
+                (λ h. let e = stays (waits h) in (ap stepsOf e, ap givenOf e))
+                (λ h b. ap (λ (t : Trace). write fuel (fuelAfter t)) (stays (waits h)) ∙ write-read fuel f b q);
+            next = after (runs ticks f) tt n (d .lengths) (d .holds);
+            sizes = same-sizes m n (d .lengths);
+          }
+
+      run-called : Claimed image P w m (lucia-run fuel ticks) r n
+      unfolding callFor refusalOf answerBy withFuel
+      run-called a = by (read fuel) refl (a .does)
+        where
+          by : (l : Loan) → read fuel ≡ l
+              → RunBy (sizes m) ticks (fueled l (entered image m)) (r .0)
+              (m .state) (m .live) (m .store) fuel (n .state) (n .live) (n .store) (r .1)
+              → Called image P w (lucia-run fuel ticks) (withLoan (λ (f : Fuel). accepted (runs ticks f)) l) m r n
+          by (Held f) q a = run-does f q (rw found at a)
+          by (Refused k) q a = none (lucia-run fuel ticks) k r n (λ j. (a .0 j, a .4 j)) (a .1, a .2, a .3)
+
+    -- ---- The others, each by its request
+    clear-called : (r : ℕ) (n : Memory) → Claimed image P w m lucia-clear r n
+    unfolding callFor answerBy
+    clear-called r n a = asked-called lucia-clear clear r n r refl (λ e. e) a
+
+    text-called : (page : List ℕ) (low high : ℕ) (r : Part) (n : Memory)
+        → Claimed image P w m (lucia-text page low high) r n
+    unfolding callFor answerBy answerAsked given requestAction endOf requestWorld worldAfter
+    text-called page low high r n a =
+        let q : Request = text page (cellOf low high) in
+        read-called (lucia-text page low high) q r n refl (reads P (sizes m) q w _ refl (λ k. refl))
+        (rw found at (a .0)) (a .1)
+
+    bytes-called : (low high : ℕ) (r : Part) (n : Memory) → Claimed image P w m (lucia-bytes low high) r n
+    unfolding callFor answerBy answerAsked given requestAction endOf requestWorld worldAfter
+    bytes-called low high r n a =
+        let q : Request = bytes (cellOf low high) in
+        read-called (lucia-bytes low high) q r n refl (reads P (sizes m) q w _ refl (λ k. refl))
+        (rw found at (a .0)) (a .1)
+
+    set-global-called : (g low high : ℕ) (r : ℕ) (n : Memory) → Claimed image P w m (lucia-set-global g low high) r n
+    unfolding callFor answerBy
+    set-global-called g low high r n a =
+        asked-called (lucia-set-global g low high) (setGlobal g (cellOf low high)) r n r refl (λ e. e) a
+
+    get-global-called : (g : ℕ) (r : Got) (n : Memory) → Claimed image P w m (lucia-get-global g) r n
+    unfolding callFor answerBy answerAsked given requestAction endOf requestWorld worldAfter
+    get-global-called g r n a =
+        read-called (lucia-get-global g) (getGlobal g) r n refl
+        (reads P (sizes m) (getGlobal g) w _ refl (λ k. refl)) (rw found at (a .0)) (a .1)
+
+    set-builtin-called : (g low high : ℕ) (r : ℕ) (n : Memory) → Claimed image P w m (lucia-set-builtin g low high) r n
+    unfolding callFor
+    set-builtin-called g low high r n a =
+        let q : Request = setBuiltin g (cellOf low high) in
+        asked-called (lucia-set-builtin g low high) q r n r refl
+        (λ e. e ∙ sym (set-builtin-answers g low high (goes-as (asks q)))) a
+
+    get-builtin-called : (g : ℕ) (r : Got) (n : Memory) → Claimed image P w m (lucia-get-builtin g) r n
+    unfolding callFor answerBy answerAsked given requestAction endOf requestWorld worldAfter
+    get-builtin-called g r n a =
+        read-called (lucia-get-builtin g) (getBuiltin g) r n refl
+        (reads P (sizes m) (getBuiltin g) w _ refl (λ k. refl)) (rw found at (a .0)) (a .1)
 
     -- ---- Every call
-    pub called : (c : Exported) (r : Answered c) (n : Memory) → NoLoad (sizes m) (callFor w c) → Allows image c m r n → Called image P w c (callFor w c) m r n
-    unfolding answerAsked given requestAction endOf requestWorld worldAfter
-    called (lucia-load own) r n l a = load-called own r n l (a .0) (a .1)
-    called (lucia-start low high args) r n l a = start-called low high args r n a
-    called (lucia-run fuel ticks) r n l a = run-called fuel ticks r n a
-    called (lucia-answer fuel kind word low high args handlers) r n l a = answer-called fuel kind word low high args handlers r n a
-    called lucia-clear r n l a = asked-called lucia-clear clear r n r refl (λ e. e) a
-    called (lucia-text page low high) r n l a = read-called (lucia-text page low high) (text page (cellOf low high)) r n refl (reads P (sizes m) (text page (cellOf low high)) w _ refl (λ k. refl)) (rw found at (a .0)) (a .1)
-    called (lucia-bytes low high) r n l a = read-called (lucia-bytes low high) (bytes (cellOf low high)) r n refl (reads P (sizes m) (bytes (cellOf low high)) w _ refl (λ k. refl)) (rw found at (a .0)) (a .1)
-    called (lucia-set-global g low high) r n l a = asked-called (lucia-set-global g low high) (setGlobal g (cellOf low high)) r n r refl (λ e. e) a
-    called (lucia-get-global g) r n l a = read-called (lucia-get-global g) (getGlobal g) r n refl (reads P (sizes m) (getGlobal g) w _ refl (λ k. refl)) (rw found at (a .0)) (a .1)
-    called (lucia-set-builtin g low high) r n l a = asked-called (lucia-set-builtin g low high) (setBuiltin g (cellOf low high)) r n r refl (λ e. e) a
-    called (lucia-get-builtin g) r n l a = read-called (lucia-get-builtin g) (getBuiltin g) r n refl (reads P (sizes m) (getBuiltin g) w _ refl (λ k. refl)) (rw found at (a .0)) (a .1)
+    each-called : (c : Exported) (r : Answered c) (n : Memory) → NoLoad (sizes m) (callFor w c)
+        → Claimed image P w m c r n
+    unfolding callFor NoLoad
+    each-called (lucia-load own) r n l a = load-called own r n l (a .0) (a .1)
+    each-called (lucia-start low high args) r n l a = start-called low high args r n a
+    each-called (lucia-run fuel ticks) r n l a = run-called fuel ticks r n a
+    each-called (lucia-answer fuel kind word low high args handlers) r n l a =
+        answer-called fuel kind word low high args handlers r n a
+    each-called lucia-clear r n l a = clear-called r n a
+    each-called (lucia-text page low high) r n l a = text-called page low high r n a
+    each-called (lucia-bytes low high) r n l a = bytes-called low high r n a
+    each-called (lucia-set-global g low high) r n l a = set-global-called g low high r n a
+    each-called (lucia-get-global g) r n l a = get-global-called g r n a
+    each-called (lucia-set-builtin g low high) r n l a = set-builtin-called g low high r n a
+    each-called (lucia-get-builtin g) r n l a = get-builtin-called g r n a
+
+  pub called : (w : World) (m : Memory) → Finds image P m w → (c : Exported) (r : Answered c) (n : Memory)
+      → NoLoad (sizes m) (callFor w c) → Claimed image P w m c r n
+  called w m found = each-called w m found nothing-answered

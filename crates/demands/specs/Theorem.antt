@@ -1,5 +1,5 @@
 -- Demand 3 holds of the exported functions, over any list of calls and any memory that their contracts allow one after the other.
-use mathlib.Core.Path.{_≡_, refl, sym, ap, _∙_}
+use mathlib.Core.Path.{_≡_, refl, sym, ap, subst, _∙_}
 use mathlib.Core.List.{List, [], _∷_, _++_}
 use mathlib.Core.Logic.{⊎-elim}
 use mathlib.Core.Bool.{Bool, true, false}
@@ -27,9 +27,9 @@ use Rattle.form.specs.Entry.{liveOf, storeOf}
 use Rattle.asks.specs.Asks.{loading, loadAnswer, Loads}
 use Rattle.asks.specs.Ready.{ready}
 use Rattle.asks.specs.declared.Got.{Got}
-use Rattle.demands.specs.Called.{Memory, memory, sizes, worldIn, callFor, standsFor, NoLoad, Led, loads, calls, longer, After, Each, Demanded}
+use Rattle.demands.specs.Called.{Memory, sizes, worldIn, Exported, Answered, callFor, standsFor, NoLoad, lentLonger, Led, loads, calls, longer, After, Each, Demanded}
 use Rattle.demands.specs.Longer.{longer-holds, longer-fits}
-use Rattle.demands.specs.CalledLaws.{Finds, worldBy, same-sizes, finds, called}
+use Rattle.demands.specs.CalledLaws.{Finds, worldBy, same-sizes, Claimed, finds, called}
 
 -- the world after one call more
 module _ (P : Program) where
@@ -39,7 +39,7 @@ module _ (P : Program) where
   calls-append (x ∷ xs) ys w = calls-append xs ys (worldAfter (callOf P (x .sizes) (x .call) w))
 
   calls-one : (z : Sizes) (x : Answer Call) (w : World) → callsOf P (standsFor z x) w ≡ worldBy P z x w
-  unfolding callsOf
+  unfolding standsFor callsOf
   calls-one z (accepted q) w = refl
   calls-one z (refused k) w = refl
 
@@ -49,6 +49,7 @@ loads-append [] ys h k = k
 loads-append (x ∷ xs) ys h k = (h .0, loads-append xs ys (h .1) k)
 
 loads-one : (z : Sizes) (x : Answer Call) → NoLoad z x → NoLoads (standsFor z x)
+unfolding standsFor NoLoad
 loads-one z (accepted q) l = (l, tt)
 loads-one z (refused k) l = tt
 
@@ -97,46 +98,80 @@ record Shown {image : List ℕ} {past : List Lent} {m : Memory} (l : Led image p
   finds : Finds image program m (callsOf program past (loaded program))
   refused : NoLoads past
 
+-- the world that the next call finds
+abbrev worldOf : {image : List ℕ} {past : List Lent} {m : Memory} {l : Led image past m} → Shown l → World
+worldOf {past = past} k = callsOf (k .program) past (loaded (k .program))
+
 after : (image : List ℕ) (P : Program) (past : List Lent) (m : Memory) → Finds image P m (callsOf P past (loaded P)) → NoLoads past → After image P past m
 after image P past m f h = record { holds = f; demand3 = rw (found-world image P m _ f) (demand3 P past h) }
 
-shown : {image : List ℕ} {past : List Lent} {m : Memory} (l : Led image past m) → Shown l
+-- a longer loan holds the same world
+longer-finds : {image : List ℕ} {P : Program} → parse (P .image) ≡ accepted (P .codes) → P .image ≡ image
+    → (w : World) (m : Memory) (live store : List ℕ) → Finds image P m w → Finds image P (lentLonger m live store) w
+unfolding lentLonger
+longer-finds {image} {P} parsed same w m live store f =
+    let g = ready image (m .state) (m .live) (m .store) (record { program = P; world = w }) f in
+    finds parsed same w (lentLonger m live store) (g .size)
+    (longer-holds P w (cells (m .state)) (m .live) (m .store) live store (g .holds))
+    (longer-fits P w (cells (m .state)) (m .live) (m .store) live store (g .fits))
+
+-- an accepted load, with the premises of `loads`
+loads-shown : {image : List ℕ} {m₀ m : Memory} (r : Got) (a : _) (z : _)
+    → Shown {image = image} (loads {m₀ = m₀} {m = m} r a z)
 unfolding callsOf
-shown {image} (loads {m₀ = m₀} {m = m} r a z) =
+loads-shown {image} {m₀} {m} r a z =
     let x = accepted-load image m₀ r (a .0 .answers) z in
     let P = x .0 in
     let l : Loads P (m₀ .state) (m₀ .store) (m .state) (m .store) = rw (x .1) at (a .0 .leaves) in
     let e : sizes m ≡ sizes m₀ = same-sizes m₀ m (l .len, ap length (a .1), l .objects .len) in
     let k = loaded-as P (sizes m₀) image (x .2) in
-    record { program = P; parsed = k .parsed; same = k .image; each = ap (load image) e ∙ x .2; finds = loaded-finds image P m₀ m (x .2) (x .3) e l; refused = tt }
-shown {image} (calls {past = past} {m = m} l c r n a h) =
-    let k = shown l in
+    record {
+      program = P;
+      parsed = k .parsed;
+      same = k .image;
+      each = ap (load image) e ∙ x .2;
+      finds = loaded-finds image P m₀ m (x .2) (x .3) e l;
+      refused = tt;
+    }
+
+-- one call more, with the premises of `calls`, where what is claimed of a call holds of it
+calls-shown : {image : List ℕ} {past : List Lent} {m : Memory} {l : Led image past m} (k : Shown l)
+    → (c : Exported) (r : Answered c) (n : Memory)
+    → (NoLoad (sizes m) (callFor (worldOf k) c) → Claimed image (k .program) (worldOf k) m c r n)
+    → (a : _) (h : _) → Shown (calls l c r n a h)
+calls-shown {image} {past} {m} k c r n claimed a h =
     let P = k .program in
-    let w = callsOf P past (loaded P) in
+    let w = worldOf k in
     let f : worldIn m ≡ w = found-world image P m w (k .finds) in
-    let x = called (k .parsed) (k .same) w m (k .finds) c r n (rw f at h) a in
+    let l : NoLoad (sizes m) (callFor w c) = rw f at h in
+    let x = claimed l a in
     let q = standsFor (sizes m) (callFor w c) in
+    let s = calls-append P past q (loaded P) ∙ calls-one P (sizes m) (callFor w c) w in
+    let more : World → List Lent = λ u. past ++ standsFor (sizes m) (callFor u c) in
+    let y : Finds image P n (callsOf P (more w) (loaded P)) = rw s (x .next) in
+    let z : NoLoads (more w) = loads-append past q (k .refused) (loads-one (sizes m) (callFor w c) l) in
     record {
       program = P;
       parsed = k .parsed;
       same = k .same;
       each = (k .each, after image P past m (k .finds) (k .refused), x .does);
-      finds = rw (f, calls-append P past q (loaded P), calls-one P (sizes m) (callFor w c) w) (x .next);
-      refused = rw f (loads-append past q (k .refused) (loads-one (sizes m) (callFor w c) (rw f at h)));
+      finds = subst (λ (u : World). Finds image P n (callsOf P (more u) (loaded P))) (sym f) y;
+      refused = subst (λ (u : World). NoLoads (more u)) (sym f) z;
     }
-shown {image} (longer {past = past} {m = m} l live store) =
+
+shown : {image : List ℕ} {past : List Lent} {m : Memory} (l : Led image past m) → Shown l
+shown (loads r a z) = loads-shown r a z
+shown (calls {m = m} l c r n a h) =
     let k = shown l in
-    let P = k .program in
-    let w = callsOf P past (loaded P) in
-    let g = ready image (m .state) (m .live) (m .store) (record { program = P; world = w }) (k .finds) in
-    let n = memory (m .state) (m .live ++ live) (m .store ++ store) in
+    calls-shown k c r n (called (k .parsed) (k .same) (worldOf k) m (k .finds) c r n) a h
+shown (longer {m = m} l live store) =
+    let k = shown l in
     record {
-      program = P;
+      program = k .program;
       parsed = k .parsed;
       same = k .same;
       each = k .each;
-      finds = finds (k .parsed) (k .same) w n (g .size) (longer-holds P w (cells (m .state)) (m .live) (m .store) live store (g .holds))
-          (longer-fits P w (cells (m .state)) (m .live) (m .store) live store (g .fits));
+      finds = longer-finds (k .parsed) (k .same) (worldOf k) m live store (k .finds);
       refused = k .refused;
     }
 

@@ -17,7 +17,7 @@ use Rattle.machine.specs.Values.{Program}
 use Rattle.machine.specs.Machine.{M}
 use Rattle.machine.specs.Opcodes.{Action, nextAction}
 use Rattle.machine.specs.Calls.{Sizes, does, stops, outcome, world, nothing, Trace, ends, isDone, isHost, isReady, turnOf, Pace, closing, failing, alone, paceOf, charge, goesOn, noTicks, tick, run}
-use Rattle.machine.specs.StepLaws.{Refusal, wrongOpcode, wrongHandle, fewValues, manyFrames, noLive, noStore, manyHandlers, refusal-small, step-law, refused-step}
+use Rattle.machine.specs.StepLaws.{Refusal, refusal-some, refusal-small, step-law, refused-step}
 use Rattle.machine.specs.FormLaws.{MachineFits, step-fits}
 use Rattle.plan.specs.Rest.{countsOf}
 use Rattle.plan.specs.declared.Counts.{Counts}
@@ -83,15 +83,6 @@ module _ {P : Program} {z : Sizes} {t : ℕ} {fuel : Fuel} {left : ℕ} {m : M} 
       by false h = grouped-end 101 m′ (λ e. omega (arith, e)) r (omega arith) (omega arith) h
 
 -- ---- A step that closes its slice, or a callback
-refusal-some : (n : ℕ) → Refusal n → 0 < n
-refusal-some n wrongOpcode = omega arith
-refusal-some n wrongHandle = omega arith
-refusal-some n fewValues = omega arith
-refusal-some n manyFrames = omega arith
-refusal-some n noLive = omega arith
-refusal-some n noStore = omega arith
-refusal-some n manyHandlers = omega arith
-
 -- the run from m₀ has come to m with k ticks left, and m is ready for a step
 module _ {P : Program} {z : Sizes} {t : ℕ} {fuel : Fuel} {left : ℕ} {m₀ : M} (m : M) (k l : ℕ) (f : Follows (t - k) (run P z t fuel left m₀) (run P z k fuel l m)) (le : k ≤ t) (lt : 0 < k) (ready : turnOf (m .result) (m .frames) ≡ isReady)
     {B L S : List Cell} {starts : List ℕ} where

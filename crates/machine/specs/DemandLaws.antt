@@ -13,7 +13,7 @@ use Rattle.cells.specs.declared.Cell.{Cell}
 use Rattle.image.specs.Records.{if?, both}
 use Rattle.image.specs.Effects.{same, sameEffect}
 use Rattle.machine.specs.Values.{Program, codeOf, builtin, bytesAt, isEffect, equalEffects, Params, codeParams, effectParams, Error, callArguments, unOperator, binOperator, metaUnOperator, metaBinOperator, zeroDivisor, luciaError, luciaPanic, thrown, shown, typeOf}
-use Rattle.machine.specs.Machine.{Handler, Frame, lucia, host, effectCallback, effects, targetOf, enter, Object, closure, list, continuation, Result, failed, M, withFrames, withStore, used, Lookup, here, absent, objectAt, checkArgs, wrongCount, parse, parseArgs, holds, handlersOf, Found, found, nowhere, under, find, search, capture, performBy, throwError, performEffect, Function, isClosure, isCallback, isEffectCallback, isContinuation, isNone, closureFunction, continuationFunction, functionOf, give, putBack, resume, newFrame, callClosure, callFunction, receive, returnValue}
+use Rattle.machine.specs.Machine.{Handler, Frame, lucia, host, effectCallback, effects, targetOf, enter, Object, closure, list, continuation, Result, failed, M, withFrames, withStore, used, Lookup, here, absent, objectAt, checkArgs, wrongCount, Parsed, parse, parseArgs, holds, handlersOf, Found, found, nowhere, under, find, search, capture, performBy, throwError, performEffect, Function, isClosure, isCallback, isEffectCallback, isContinuation, isNone, closureFunction, continuationFunction, functionOf, give, putBack, resume, newFrame, callClosure, callFunction, receive, returnValue}
 use Rattle.machine.specs.Opcodes.{callable}
 use Rattle.machine.specs.Calls.{without, distinct}
 use Rattle.machine.specs.Demand.{All, Any, Deed, captures, other, From, Same, countOf, markOf, Fits, Passed, Handles, Captured, Entered, Operates, handled, nobody, Throws, Performs, gets, bare, returning, Stored, Callable, Calls, begins, asksHost, asEffect, resumes, unfit, unfitValues, noFunction, PutIn}
@@ -239,21 +239,47 @@ thrown-fits P (luciaError v) = refl
 thrown-fits P (luciaPanic v) = refl
 
 module _ (P : Program) (m : M) where
-  capture-law : (e : Cell) (args : List Cell) (left : Result) (F : List Frame) (x : Found) → Searches P e F x → (d : Deed) × Operates P m e args left F d (capture P (effectParams P e) e args left (withFrames F m) x)
+  nobody-law : (e : Cell) (args : List Cell) (left : Result) (F : List Frame) → All (λ f. Handles P e f → ⊥) (drop 1 F)
+      → Operates P m e args left F other (capture P (effectParams P e) e args left (withFrames F m) nowhere)
   unfolding capture
-  capture-law e args left F nowhere w = (other, nobody w)
-  capture-law e args left F (found above h below) w =
-      (captures (used (m .store)) above, handled above below h _ _ _ w (passed-effect P e args (m .store ++ (continuation above ∷ []))) (enter-law P e _ _ h (w .handles)))
+  nobody-law e args left F w = nobody w
 
-  pub throw-law : (x : Error) (F : List Frame) → (d : Deed) × Operates P m (thrown x) (shown x ∷ []) (failed x) F d (throwError 1 P x (withFrames F m))
+  -- The arguments that the handler is passed, and the store with them behind the frames K that are captured.
+  abbrev passed : Cell → List Cell → List Frame → Parsed
+  passed e args K = parseArgs (effectParams P e) args (m .store ++ (continuation K ∷ []))
+
+  handled-law : (e : Cell) (args : List Cell) (left : Result) (F K below : List Frame) (h : Frame)
+      → Captured P e F K h below
+      → Passed (countOf P e) (markOf P e) args (passed e args K .args) (m .store ++ (continuation K ∷ []))
+      (passed e args K .store)
+      → ((k : Cell) (given : List Cell) → Entered P e k given h (enter P e k given h))
+      → Operates P m e args left F (captures (used (m .store)) K)
+      (capture P (effectParams P e) e args left (withFrames F m) (found K h below))
+  unfolding capture
+  handled-law e args left F K below h w p n = handled K below h _ _ _ w p (n _ _)
+
+  capture-law : (e : Cell) (args : List Cell) (left : Result) (F : List Frame) (x : Found) → Searches P e F x
+      → (d : Deed) × Operates P m e args left F d (capture P (effectParams P e) e args left (withFrames F m) x)
+  capture-law e args left F nowhere w = (other, nobody-law e args left F w)
+  capture-law e args left F (found K h below) w = (
+    captures (used (m .store)) K,
+    handled-law e args left F K below h w
+        (passed-effect P e args (m .store ++ (continuation K ∷ []))) (λ k given. enter-law P e k given h (w .handles)),
+  )
+
+  throw-law : (x : Error) (F : List Frame) → (d : Deed) × Operates P m (thrown x) (shown x ∷ []) (failed x) F d (throwError 1 P x (withFrames F m))
   unfolding throwError performBy
   throw-law x F = rw (thrown-fits P x) (capture-law (thrown x) _ _ F (search P (thrown x) F) (search-law P (thrown x) F))
 
   -- A throw of an error that is not the script's performs Error.
-  pub error-law : (x : Error) (F : List Frame) → thrown x ≡ builtin 1 → (d : Deed) × Throws P m F d (throwError 1 P x (withFrames F m))
+  abbrev pub ErrorLaw : Type 0
+  ErrorLaw =
+      (x : Error) (F : List Frame) → thrown x ≡ builtin 1 → (d : Deed) × Throws P m F d (throwError 1 P x (withFrames F m))
+
+  error-law : ErrorLaw
   error-law x F q = let w = throw-law x F in (w .0, (x, shown x, rw q at (w .1)))
 
-  pub perform-law : (e : Cell) (args : List Cell) (F : List Frame) → (d : Deed) × Performs P m e args F d (performEffect P e args (withFrames F m))
+  perform-law : (e : Cell) (args : List Cell) (F : List Frame) → (d : Deed) × Performs P m e args F d (performEffect P e args (withFrames F m))
   unfolding performEffect performBy thrown
   perform-law e args F = by (checkArgs (effectParams P e) args) refl
     where
@@ -289,7 +315,7 @@ module _ (s : List Object) (f : Cell) where
   continuation-is (here (continuation K)) q t = (t, refl, q)
   continuation-is absent q t = tt
 
-  pub function-is : Is (functionOf s f)
+  function-is : Is (functionOf s f)
   unfolding functionOf
   function-is = by (isEffect f) (eqb (f .tag) 39) (eqb (f .tag) 7) (eqb (f .tag) 23) refl refl refl refl
     where
@@ -312,7 +338,7 @@ module _ (s : List Object) (f : Cell) where
       off : (k : ℕ) → isEffect (record { tag = k; number = f .number; payload = f .payload }) ≡ false → f .tag ≡ k → isEffect f ≡ false
       off k n e = rw e n
 
-  pub uncallable : callable (functionOf s f) ≡ false → Callable s f → ⊥
+  uncallable : callable (functionOf s f) ≡ false → Callable s f → ⊥
   uncallable h w = no (sym h ∙ callable-out w)
 
 -- ---- Calls and returns
@@ -322,7 +348,7 @@ gets-law v (lucia c p l s hs) = refl
 gets-law v (host n w s hs) = refl
 gets-law v (effectCallback e s hs) = refl
 
-pub returned-law : (v : Cell) (F : List Frame) (m : M) → returnValue v F (withFrames F m) ≡ returning v F m
+returned-law : (v : Cell) (F : List Frame) (m : M) → returnValue v F (withFrames F m) ≡ returning v F m
 unfolding returnValue receive
 returned-law v [] m = refl
 returned-law v (f ∷ F) m = ap (λ (g : Frame). withFrames (g ∷ F) m) (by f)
@@ -337,35 +363,64 @@ pub record Known (past : List Deed) (s : List Object) : Type 0 where
   pub known : (k : ℕ) (K : List Frame) → Stored s k K → From past k K
   pub some : (k : ℕ) → From past k [] → ⊥
 
-module _ (P : Program) (past : List Deed) (m : M) (known : Known past (m .store)) (f : Cell) (args : List Cell) (kept F : List Frame) where
+-- A call. What is said of a throw is a premise, so that these laws stand or fall by themselves.
+module _ (P : Program) (past : List Deed) (m : M) (known : Known past (m .store)) (erring : ErrorLaw P m) (f : Cell)
+    (args : List Cell) (kept F : List Frame) where
   abbrev Done : Function → Type 0
   Done g = (d : Deed) × Calls P past m f args kept F d (callFunction P g f args (withFrames F m))
 
-  closure-law : (c : ℕ) (us : List Cell) → f .tag ≡ 7 → objectAt (m .store) (f .number) ≡ here (closure c us) → Done (isClosure (f .number) c)
+  closure-law : (c : ℕ) (us : List Cell) → f .tag ≡ 7 → objectAt (m .store) (f .number) ≡ here (closure c us)
+      → Done (isClosure (f .number) c)
   unfolding callFunction callClosure thrown
-  closure-law c us t q = by (checkArgs (codeParams (codeOf P c)) args) refl
+  closure-law c us t q = by (checkArgs p args) refl
     where
-      by : (b : Bool) → checkArgs (codeParams (codeOf P c)) args ≡ b → (d : Deed) × Calls P past m f args kept F d (if? b (let a = parseArgs (codeParams (codeOf P c)) args (m .store) in withStore (newFrame (f .number) (codeOf P c) (a .args) ∷ F) (a .store) (withFrames F m)) (throwError 1 P (wrongCount (codeParams (codeOf P c)) args) (withFrames F m)))
-      by true h = (other, begins c us _ _ t q (fits-out _ _ args h) (passed-law (codeOf P c .params) (codeOf P c .variadic) args (m .store)))
-      by false h = let w = error-law P m (wrongCount (codeParams (codeOf P c)) args) F refl in (w .0, unfit c us t q (λ k. no (sym h ∙ fits-in _ _ args k)) (w .1))
+      p : Params
+      p = codeParams (codeOf P c)
 
-  resume-law : (K : List Frame) → f .tag ≡ 23 → Stored (m .store) (f .number) K → Done (isContinuation (f .number) K)
+      a : Parsed
+      a = parseArgs p args (m .store)
+
+      by : (b : Bool) → checkArgs p args ≡ b
+          → (d : Deed) × Calls P past m f args kept F d (if? b
+          (withStore (newFrame (f .number) (codeOf P c) (a .args) ∷ F) (a .store) (withFrames F m))
+          (throwError 1 P (wrongCount p args) (withFrames F m)))
+      by true h = (
+        other,
+        begins c us _ _ t q (fits-out _ _ args h)
+            (passed-law (codeOf P c .params) (codeOf P c .variadic) args (m .store)),
+      )
+      by false h =
+          let w = erring (wrongCount p args) F refl in
+          (w .0, unfit c us t q (λ k. no (sym h ∙ fits-in _ _ args k)) (w .1))
+
+  callback-law : (n w : ℕ) → f .tag ≡ 39 → n ≡ f .number → w ≡ f .payload → Done (isCallback n w)
+  unfolding callFunction
+  callback-law n w t p q = (other, rw (p, q) (asksHost t))
+
+  resume-law : ((v : Cell) (x : Frame) → give v x ≡ gets v x) → (K : List Frame) → f .tag ≡ 23
+      → Stored (m .store) (f .number) K → Done (isContinuation (f .number) K)
   unfolding callFunction resume putBack thrown
-  resume-law K t q = by args refl K q
+  resume-law given K t q = by args refl K q
     where
-      by : (vs : List Cell) → args ≡ vs → (K : List Frame) → Stored (m .store) (f .number) K → (d : Deed) × Calls P past m f args kept F d (resume P K vs (withFrames F m))
-      by [] e K q = let w = error-law P m (callArguments 1 false 0) F refl in (w .0, unfitValues K t q (λ n. omega (arith, ap length e, n)) (w .1))
+      by : (vs : List Cell) → args ≡ vs → (K : List Frame) → Stored (m .store) (f .number) K
+          → (d : Deed) × Calls P past m f args kept F d (resume P K vs (withFrames F m))
+      by [] e K q =
+          let w = erring (callArguments 1 false 0) F refl in
+          (w .0, unfitValues K t q (λ n. omega (arith, ap length e, n)) (w .1))
       by (v ∷ []) e [] q = absurd (known .some _ (known .known _ _ q))
-      by (v ∷ []) e (x ∷ K) q = (other, rw (gets-law v x) (resumes v x K t e (known .known _ _ q)))
-      by (v ∷ u ∷ vs) e K q = let w = error-law P m (callArguments 1 false (length (v ∷ u ∷ vs))) F refl in (w .0, unfitValues K t q (λ n. omega (arith, ap length e, n)) (w .1))
+      by (v ∷ []) e (x ∷ K) q = (other, rw (given v x) (resumes v x K t e (known .known _ _ q)))
+      by (v ∷ u ∷ vs) e K q =
+          let w = erring (callArguments 1 false (length (v ∷ u ∷ vs))) F refl in
+          (w .0, unfitValues K t q (λ n. omega (arith, ap length e, n)) (w .1))
 
-  pub call-law : (g : Function) → functionOf (m .store) f ≡ g → Is (m .store) f g → (g ≡ isNone → kept ≡ F) → Done g
+  call-law : (g : Function) → functionOf (m .store) f ≡ g → Is (m .store) f g → (g ≡ isNone → kept ≡ F) → Done g
   unfolding callFunction thrown callable
   call-law (isClosure h c) q i k = rw (i .1) (closure-law c (i .2) (i .0) (i .3))
-  call-law (isCallback n w) q i k = (other, rw (i .1, i .2) (asksHost (i .0)))
+  call-law (isCallback n w) q i k = callback-law n w (i .0) (i .1) (i .2)
   call-law (isEffectCallback e) q i k = (other, rw (i .1) (asEffect (i .0)))
-  call-law (isContinuation h K) q i k = resume-law K (i .0) (i .2)
-  call-law isNone q i k = rw (k refl) (let w = error-law P m (metaUnOperator 0 (typeOf f)) F refl in (w .0, noFunction (uncallable (m .store) f (ap callable q)) (w .1)))
+  call-law (isContinuation h K) q i k = resume-law gets-law K (i .0) (i .2)
+  call-law isNone q i k = rw (k refl) (let w = erring (metaUnOperator 0 (typeOf f)) F refl in
+      (w .0, noFunction (uncallable (m .store) f (ap callable q)) (w .1)))
 
 -- ---- An answer's handlers
 module _ (P : Program) where
@@ -400,5 +455,30 @@ module _ (P : Program) where
       by a b true q = inl (holds-true P e seen q, a (omega (arith, h)))
       by a b false q = inr (holds-false P e seen q, distinct P n (all (e ∷ seen) es), refl, b (omega (arith, h)))
 
-  pub put-law : (new : List Cell) → PutIn P [] new (distinct P (length new) new)
+  put-law : (new : List Cell) → PutIn P [] new (distinct P (length new) new)
   put-law new = put-all [] new (length new) (omega arith)
+
+-- ---- What these laws say of a machine, as one premise of the laws on opcodes and requests
+pub record Ruled (P : Program) (past : List Deed) (m : M) : Type 0 where
+  pub throwing : (x : Error) (F : List Frame)
+      → (d : Deed) × Operates P m (thrown x) (shown x ∷ []) (failed x) F d (throwError 1 P x (withFrames F m))
+  pub erring : ErrorLaw P m
+  pub performing : (e : Cell) (args : List Cell) (F : List Frame)
+      → (d : Deed) × Performs P m e args F d (performEffect P e args (withFrames F m))
+  pub calling : (f : Cell) (args : List Cell) (kept F : List Frame) → (functionOf (m .store) f ≡ isNone → kept ≡ F)
+      → (d : Deed) × Calls P past m f args kept F d (callFunction P (functionOf (m .store) f) f args (withFrames F m))
+  pub noCall : (f : Cell) → callable (functionOf (m .store) f) ≡ false → Callable (m .store) f → ⊥
+  pub returnsTo : (v : Cell) (F : List Frame) → returnValue v F (withFrames F m) ≡ returning v F m
+  pub putting : (new : List Cell) → PutIn P [] new (distinct P (length new) new)
+
+pub ruled : (P : Program) (past : List Deed) (m : M) → Known past (m .store) → Ruled P past m
+ruled P past m known = record {
+  throwing = throw-law P m;
+  erring = error-law P m;
+  performing = perform-law P m;
+  calling = λ f args kept F k.
+      call-law P past m known (error-law P m) f args kept F (functionOf (m .store) f) refl (function-is (m .store) f) k;
+  noCall = uncallable (m .store);
+  returnsTo = λ v F. returned-law v F m;
+  putting = put-law P;
+}

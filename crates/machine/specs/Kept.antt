@@ -19,10 +19,10 @@ use Rattle.ints.specs.declared.Division.{Division}
 use Rattle.ints.specs.declared.Division.the-variants.{Of, ZeroDivisor}
 use Rattle.machine.specs.Values.{Program, codeOf, builtin, divides, ofInts, isNull, isEffect, equalEffects, matchEffectHandler, effectParams, typeOf, Error, unOperator, binOperator, metaUnOperator, luciaError, luciaPanic, thrown, shown, Computed, computes, fails, unary, binary}
 use Rattle.machine.specs.Machine.{Handler, Frame, lucia, host, effectCallback, Object, closure, list, continuation, Result, running, returned, failed, unhandled, M, Lookup, here, absent, objectAt, functionOf}
-use Rattle.machine.specs.Opcodes.{Action, goes, jumps, makes, sets, calls, performs, throws, returns, clears, doing, Taken, takes, refuses, Running, withTop, withTwo, computed, reaches, loadConst, Operands, operandsOf, callable, callTaken, buildList, popJump, jumpOrPop, registered, registerHandler, checkEffect, between, opcodeAction, closureAction, nextAction}
+use Rattle.machine.specs.Opcodes.{Action, goes, jumps, makes, sets, setsBuiltin, calls, performs, throws, returns, clears, doing, Taken, takes, refuses, Running, withTop, withTwo, computed, reaches, loadConst, Operands, operandsOf, callable, callTaken, buildList, popJump, jumpOrPop, registered, registerHandler, checkEffect, between, opcodeAction, closureAction, nextAction}
 use Rattle.machine.specs.Calls.{CallbackReturn, callWith, perform, tailCall, tailPerform, returnIt, errorWith, panicWith, Request, start, answer, clear, text, bytes, setGlobal, getGlobal, setBuiltin, getBuiltin, fit, answerAction, answered, idle, World, requestAction, requestWorld, givenBy, endOf, givenOf, worldAfter}
-use Rattle.machine.specs.Demand.{Deed, sets as set-deed, other, Operates, Performs, returning, At, Plain, Takes, Registered, noFunction, Calls, Calling, Ticks, stays, makes as tick-makes, registers, noEffect, setsGlobal, returns as tick-returns, throws as tick-throws, calls as tick-calls, tailCalls, performs as tick-performs, Asks}
-use Rattle.machine.specs.DemandLaws.{no, same-out, unsame, throw-law, error-law, perform-law, function-is, uncallable, returned-law, Known, call-law, put-law}
+use Rattle.machine.specs.Demand.{Deed, sets as set-deed, other, Operates, Performs, ending, returning, setting, settingBuiltin, At, Plain, Takes, Registered, noFunction, Calls, Calling, Ticks, stays, makes as tick-makes, registers, noEffect, setsGlobal, returns as tick-returns, throws as tick-throws, calls as tick-calls, tailCalls, performs as tick-performs, Asks}
+use Rattle.machine.specs.DemandLaws.{no, same-out, unsame, Known, Ruled, ruled}
 use Rattle.machine.specs.StepLaws.{if-cases}
 
 -- The action is a tick of demand 3.
@@ -87,8 +87,9 @@ binary-errs P op a b =
     if-cases Errs (eqb op 24) _ _ (λ _. tt) (λ _. if-cases Errs (eqb op 25) _ _ (λ _. tt)
     (λ _. if-cases Errs (both (eqb (a .tag) 2) (eqb (b .tag) 2)) _ _ (λ _. ints-errs op (a .payload) (b .payload)) (λ _. refl)))
 
--- An opcode of the frame that runs.
-module _ (P : Program) (ds : List Deed) (m : M) (known : Known ds (m .store)) (h p : ℕ) (l st : List Cell) (hs : List Handler) (below : List Frame) (c : ℕ) (us : List Cell) (stands : objectAt (m .store) h ≡ here (closure c us)) (at : m .frames ≡ lucia h p l st hs ∷ below) where
+-- An opcode of the frame that runs. What is said of performs, throws and calls is a premise, so that these laws stand or
+-- fall by themselves.
+module _ (P : Program) (ds : List Deed) (m : M) (rules : Ruled P ds m) (h p : ℕ) (l st : List Cell) (hs : List Handler) (below : List Frame) (c : ℕ) (us : List Cell) (stands : objectAt (m .store) h ≡ here (closure c us)) (at : m .frames ≡ lucia h p l st hs ∷ below) where
   abbrev Q : Action → Type 0
   Q a = Goes P ds m a
 
@@ -109,11 +110,11 @@ module _ (P : Program) (ds : List Deed) (m : M) (known : Known ds (m .store)) (h
 
   throws-left : (e : Error) (n : ℕ) (rest : List Cell) → Takes op n → thrown e ≡ builtin 1 → rest ≡ drop n st → Q (throws e (taken rest))
   unfolding doing
-  throws-left e n rest t b q = rw q (let w = error-law P m e (taken (drop n st)) b in went (w .0) (tick-throws r op x n (runs-at op refl) t (w .1)))
+  throws-left e n rest t b q = rw q (let w = rules .erring e (taken (drop n st)) b in went (w .0) (tick-throws r op x n (runs-at op refl) t (w .1)))
 
   returns-left : (v : Cell) (rest : List Cell) → op ≡ 37 → st ≡ v ∷ rest → Q (returns v below)
   unfolding doing
-  returns-left v rest e q = went other (rw (returned-law v below m) (tick-returns r x v rest (runs-at 37 e) q))
+  returns-left v rest e q = went other (rw (rules .returnsTo v below) (tick-returns r x v rest (runs-at 37 e) q))
 
   sets-left : (v : Cell) (rest : List Cell) → op ≡ 8 → st ≡ v ∷ rest → Q (sets (getD (codeOf P c .globals) x 0) v (taken rest))
   unfolding doing
@@ -172,7 +173,7 @@ module _ (P : Program) (ds : List Deed) (m : M) (known : Known ds (m .store)) (h
   register-left k e rest q =
       if-cases Q (isEffect e) _ _
       (λ i. went other (registers r x e rest _ (runs-at 49 k) q (eqb-true (typeOf e) 8 i) (registered-left e x (length rest) hs)))
-      (λ i. let w = error-law P m (unOperator 49 x (typeOf e)) (taken rest) refl in went (w .0) (noEffect r x e rest (runs-at 49 k) q (eqb-false (typeOf e) 8 i) (w .1)))
+      (λ i. let w = rules .erring (unOperator 49 x (typeOf e)) (taken rest) refl in went (w .0) (noEffect r x e rest (runs-at 49 k) q (eqb-false (typeOf e) 8 i) (w .1)))
 
   -- a Call, or a ReturnCall
   call-left : (left : List Cell → List Frame) → ((d : Deed) (m′ : M) → Calling P ds m r x (left (drop (x + 1) st)) d m′ → Ticks P ds m d m′)
@@ -184,8 +185,8 @@ module _ (P : Program) (ds : List Deed) (m : M) (known : Known ds (m .store)) (h
       let F = left (drop (x + 1) st) in
       if-cases (λ (y : Operands). If Q (callTaken (m .store) y taken left)) (ltb x (length st)) _ _
       (λ _. if-cases (If Q) (callable (functionOf (m .store) f)) _ _
-      (λ q. took _ (let w = call-law P ds m known f (reverse (take x st)) kept F (functionOf (m .store) f) refl (function-is (m .store) f) (λ z. no (sym (ap callable z) ∙ q)) in went (w .0) (o _ _ (w .1))))
-      (λ q. took _ (let w = error-law P m (metaUnOperator 0 (typeOf f)) kept refl in went (w .0) (o _ _ (noFunction (uncallable (m .store) f q) (w .1))))))
+      (λ q. took _ (let w = rules .calling f (reverse (take x st)) kept F (λ z. no (sym (ap callable z) ∙ q)) in went (w .0) (o _ _ (w .1))))
+      (λ q. took _ (let w = rules .erring (metaUnOperator 0 (typeOf f)) kept refl in went (w .0) (o _ _ (noFunction (rules .noCall f q) (w .1))))))
       (λ _. not 12)
 
   is : (k : ℕ) {t u : Taken} → (op ≡ k → If Q t) → If Q u → If Q (if? (eqb op k) t u)
@@ -254,55 +255,63 @@ module _ (P : Program) (ds : List Deed) (m : M) (known : Known ds (m .store)) (h
           clash : (k : ℕ) → op ≡ k → between i j k ≡ false → ⊥
           clash k e n = let y : between i j k ≡ true = rw (sym e) q in let z : _≡_ {A = ℕ} 0 1 = cc in omega arith
 
-module _ (P : Program) (ds : List Deed) where
-  closure-left : (m : M) (known : Known ds (m .store)) (h p : ℕ) (l st : List Cell) (hs : List Handler) (below : List Frame) → m .frames ≡ lucia h p l st hs ∷ below → (o : Lookup) → objectAt (m .store) h ≡ o
+module _ (P : Program) (ds : List Deed) (m : M) (rules : Ruled P ds m) where
+  closure-left : (h p : ℕ) (l st : List Cell) (hs : List Handler) (below : List Frame)
+      → m .frames ≡ lucia h p l st hs ∷ below → (o : Lookup) → objectAt (m .store) h ≡ o
       → If (Goes P ds m) (closureAction P m h p l st hs below o)
   unfolding closureAction
-  closure-left m known h p l st hs below at (here (closure c us)) q = opcode-left P ds m known h p l st hs below c us q at
-  closure-left m known h p l st hs below at (here (list vs)) q = not 7
-  closure-left m known h p l st hs below at (here (continuation K)) q = not 7
-  closure-left m known h p l st hs below at absent q = not 7
+  closure-left h p l st hs below at (here (closure c us)) q = opcode-left P ds m rules h p l st hs below c us q at
+  closure-left h p l st hs below at (here (list vs)) q = not 7
+  closure-left h p l st hs below at (here (continuation K)) q = not 7
+  closure-left h p l st hs below at absent q = not 7
 
-  next-left : (m : M) (known : Known ds (m .store)) (F : List Frame) → m .frames ≡ F → If (Goes P ds m) (nextAction P m F)
+  callback-left : (e : Cell) (st hs : List Cell) (below : List Frame) → m .frames ≡ effectCallback e st hs ∷ below
+      → If (Goes P ds m) (nextAction P m (effectCallback e st hs ∷ below))
   unfolding nextAction doing
-  next-left m known [] at = not 11
-  next-left m known (lucia h p l st hs ∷ below) at = closure-left m known h p l st hs below at (objectAt (m .store) h) refl
-  next-left m known (host n w st hs ∷ below) at = not 11
-  next-left m known (effectCallback e st hs ∷ below) at = took (performs e (reverse st) below) (let w = perform-law P m e (reverse st) below in went (w .0) (tick-performs e st hs below at (w .1)))
+  callback-left e st hs below at = took (performs e (reverse st) below)
+      (let w = rules .performing e (reverse st) below in went (w .0) (tick-performs e st hs below at (w .1)))
 
+  next-left : (F : List Frame) → m .frames ≡ F → If (Goes P ds m) (nextAction P m F)
+  unfolding nextAction
+  next-left [] at = not 11
+  next-left (lucia h p l st hs ∷ below) at = closure-left h p l st hs below at (objectAt (m .store) h) refl
+  next-left (host n w st hs ∷ below) at = not 11
+  next-left (effectCallback e st hs ∷ below) at = callback-left e st hs below at
+
+module _ (P : Program) (ds : List Deed) where
   -- A request that is done as the action a.
-  abbrev Asked : Request → World → Action → Type 0
+  abbrev pub Asked : Request → World → Action → Type 0
   Asked q w a = let m = doing P a (w .machine) in (d : Deed) × Asks P ds (w .machine) (w .wait) q d m (worldAfter (endOf P q w m) .wait) (givenOf (endOf P q w m) .value)
 
-  module _ (w : World) (known : Known ds (w .machine .store)) where
+  module _ (w : World) (rules : Ruled P ds (w .machine)) where
     abbrev m : M
     m = w .machine
 
     called : (f : Cell) (args : List Cell) (F : List Frame) → (d : Deed) × Calls P ds m f args F F d (doing P (calls f args F) m)
     unfolding doing
-    called f args F = call-law P ds m known f args F F (functionOf (m .store) f) refl (function-is (m .store) f) (λ _. refl)
+    called f args F = rules .calling f args F F (λ _. refl)
 
     performed : (e : Cell) (args : List Cell) (F : List Frame) → (d : Deed) × Performs P m e args F d (doing P (performs e args F) m)
     unfolding doing
-    performed e args F = perform-law P m e args F
+    performed e args F = rules .performing e args F
 
     done : (v : Cell) (F : List Frame) → doing P (returns v F) m ≡ returning v F m
     unfolding doing
-    done v F = returned-law v F m
+    done v F = rules .returnsTo v F
 
     erred : (v : Cell) (F : List Frame) → (d : Deed) × Operates P m (builtin 1) (v ∷ []) (failed (luciaError v)) F d (doing P (throws (luciaError v) F) m)
     unfolding doing thrown shown
-    erred v F = throw-law P m (luciaError v) F
+    erred v F = rules .throwing (luciaError v) F
 
     panicked : (v : Cell) (F : List Frame) → (d : Deed) × Operates P m (builtin 2) (v ∷ []) (failed (luciaPanic v)) F d (doing P (throws (luciaPanic v) F) m)
     unfolding doing thrown shown
-    panicked v F = throw-law P m (luciaPanic v) F
+    panicked v F = rules .throwing (luciaPanic v) F
 
     answer-left : (n v word : ℕ) (st hs : List Cell) (below : List Frame) (fuel : Fuel) (r : CallbackReturn) → w .wait ≡ true → m .frames ≡ host n v st hs ∷ below
         → If (Asked (answer word fuel r) w) (answerAction P (m .store) (λ (new : List Cell). host n word st new) hs below r)
     unfolding answerAction endOf requestWorld worldAfter givenOf
     answer-left n v word st hs below fuel (callWith f args new) b at =
-        fit-left _ _ (let c = called f args (host n word st _ ∷ below) in (c .0, (n, v, st, hs, below, b, at, (_, put-law P new, c .1), refl)))
+        fit-left _ _ (let c = called f args (host n word st _ ∷ below) in (c .0, (n, v, st, hs, below, b, at, (_, rules .putting new, c .1), refl)))
     answer-left n v word st hs below fuel (perform e args) b at =
         fit-left _ _ (let c = performed e args (host n word st hs ∷ below) in (c .0, (n, v, st, hs, below, b, at, c .1, refl)))
     answer-left n v word st hs below fuel (tailCall f args) b at = fit-left _ _ (let c = called f args below in (c .0, (n, v, st, hs, below, b, at, c .1, refl)))
@@ -326,27 +335,75 @@ module _ (P : Program) (ds : List Deed) where
     start-left (failed x) fs p q b f args = not 11
     start-left (unhandled e vs) fs p q b f args = not 11
 
+    await-left : (word : ℕ) (fuel : Fuel) (r : CallbackReturn)
+        → ((F : List Frame) → w .wait ≡ true → m .frames ≡ F
+        → If (Asked (answer word fuel r) w) (answered P (m .store) word r F))
+        → If (Asked (answer word fuel r) w) (requestAction P (answer word fuel r) w)
+    unfolding requestAction
+    await-left word fuel r h =
+        if-cases (If (Asked (answer word fuel r) w)) (w .wait) _ _ (λ b. h (m .frames) b refl) (λ _. not 11)
+
+    clear-done : doing P clears m ≡ ending running [] m
+    unfolding doing
+    clear-done = refl
+
+    clear-left : doing P clears m ≡ ending running [] m → If (Asked clear w) (requestAction P clear w)
+    unfolding requestAction endOf requestWorld worldAfter
+    clear-left h = took clears (other, (refl, h, refl))
+
+    set-done : (g : ℕ) (v : Cell) (F : List Frame) → doing P (sets g v F) m ≡ setting g v F m
+    unfolding doing
+    set-done g v F = refl
+
+    set-left : (g : ℕ) (v : Cell) → (doing P (sets g v (m .frames)) m ≡ setting g v (m .frames) m)
+        → If (Asked (setGlobal g v) w) (requestAction P (setGlobal g v) w)
+    unfolding requestAction endOf requestWorld worldAfter
+    set-left g v h = fit-left _ _ (set-deed g v, (refl, h, refl))
+
+    builtin-done : (g : ℕ) (v : Cell) → doing P (setsBuiltin g v (m .frames)) m ≡ settingBuiltin g v m
+    unfolding doing
+    builtin-done g v = refl
+
+    reads-done : doing P (goes (m .frames)) m ≡ m
+    unfolding doing
+    reads-done = refl
+
+    get-left : (g : ℕ) → doing P (goes (m .frames)) m ≡ m
+        → If (Asked (getGlobal g) w) (requestAction P (getGlobal g) w)
+    unfolding requestAction endOf requestWorld worldAfter givenOf givenBy
+    get-left g h = fit-left _ _ (other, (refl, h, refl, ap (λ (x : M). getD (x .globals) g null) h))
+
     request-left : (q : Request) → If (Asked q w) (requestAction P q w)
-    unfolding requestAction doing endOf requestWorld worldAfter givenOf givenBy
+    unfolding requestAction endOf requestWorld worldAfter givenOf givenBy
     request-left (start f args) = start-left (m .result) (m .frames) refl refl _ f args
-    request-left (answer word fuel r) = if-cases (If (Asked (answer word fuel r) w)) (w .wait) _ _ (λ b. answered-left word fuel r (m .frames) b refl) (λ _. not 11)
-    request-left clear = took clears (other, (refl, refl, refl))
-    request-left (text page v) = fit-left _ _ (other, (refl, refl, refl))
-    request-left (bytes v) = fit-left _ _ (other, (refl, refl, refl))
-    request-left (setGlobal g v) = fit-left _ _ (set-deed g v, (refl, refl, refl))
-    request-left (getGlobal g) = fit-left _ _ (other, (refl, refl, refl, refl))
-    request-left (setBuiltin g v) = fit-left _ _ (other, (refl, refl, refl))
-    request-left (getBuiltin g) = fit-left _ _ (other, (refl, refl, refl, refl))
+    request-left (answer word fuel r) = await-left word fuel r (answered-left word fuel r)
+    request-left clear = clear-left clear-done
+    request-left (text page v) = fit-left _ _ (other, (refl, reads-done, refl))
+    request-left (bytes v) = fit-left _ _ (other, (refl, reads-done, refl))
+    request-left (setGlobal g v) = set-left g v (set-done g v (m .frames))
+    request-left (getGlobal g) = get-left g reads-done
+    request-left (setBuiltin g v) = fit-left _ _ (other, (refl, refl, builtin-done g v))
+    request-left (getBuiltin g) =
+        fit-left _ _ (other, (refl, reads-done, refl, ap (λ (x : M). getD (x .builtins) g null) reads-done))
 
-  taken-left : {Q : Action → Type 0} {t : Taken} (a : Action) → If Q t → t ≡ takes a → Q a
-  taken-left a (took x h) q = let y : x ≡ a = cc in rw y at h
-  taken-left a (not n) q = let z : _≡_ {A = ℕ} 0 1 = cc in absurd (omega arith)
+taken-left : {Q : Action → Type 0} {t : Taken} (a : Action) → If Q t → t ≡ takes a → Q a
+taken-left a (took x h) q = let y : x ≡ a = cc in rw y at h
+taken-left a (not n) q = let z : _≡_ {A = ℕ} 0 1 = cc in absurd (omega arith)
 
-  pub tick-law : (m : M) → Known ds (m .store) → (a : Action) → nextAction P m (m .frames) ≡ takes a → (d : Deed) × Ticks P ds m d (doing P a m)
-  tick-law m known a h = by (taken-left a (next-left m known (m .frames) refl) h)
-    where
-      by : Goes P ds m a → (d : Deed) × Ticks P ds m d (doing P a m)
-      by (went d t) = (d, t)
+-- The next action of a run is a tick; a request that is taken is done.
+abbrev pub TickLaw : Program → Type 0
+TickLaw P = (ds : List Deed) (m : M) → Known ds (m .store) → (a : Action) → nextAction P m (m .frames) ≡ takes a
+    → (d : Deed) × Ticks P ds m d (doing P a m)
 
-  pub ask-law : (q : Request) (w : World) → Known ds (w .machine .store) → (a : Action) → requestAction P q w ≡ takes a → Asked q w a
-  ask-law q w known a h = taken-left a (request-left w known q) h
+abbrev pub AskLaw : Program → Type 0
+AskLaw P = (ds : List Deed) (q : Request) (w : World) → Known ds (w .machine .store) → (a : Action)
+    → requestAction P q w ≡ takes a → Asked P ds q w a
+
+pub tick-law : (P : Program) → TickLaw P
+tick-law P ds m known a h = by (taken-left a (next-left P ds m (ruled P ds m known) (m .frames) refl) h)
+  where
+    by : Goes P ds m a → (d : Deed) × Ticks P ds m d (doing P a m)
+    by (went d t) = (d, t)
+
+pub ask-law : (P : Program) → AskLaw P
+ask-law P ds q w known a h = taken-left a (request-left P ds w (ruled P ds (w .machine) known) q) h

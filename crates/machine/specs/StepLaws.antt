@@ -154,6 +154,16 @@ pub data Refusal : ℕ → Type 0 where
   noStore : Refusal 15
   manyHandlers : Refusal 16
 
+-- A refusal is a number from 1 to 16.
+pub refusal-some : (n : ℕ) → Refusal n → 0 < n
+refusal-some n wrongOpcode = omega arith
+refusal-some n wrongHandle = omega arith
+refusal-some n fewValues = omega arith
+refusal-some n manyFrames = omega arith
+refusal-some n noLive = omega arith
+refusal-some n noStore = omega arith
+refusal-some n manyHandlers = omega arith
+
 pub refusal-small : (n : ℕ) → Refusal n → n < 17
 refusal-small n wrongOpcode = omega arith
 refusal-small n wrongHandle = omega arith

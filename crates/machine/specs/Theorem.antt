@@ -20,11 +20,11 @@ use Rattle.machine.specs.Machine.{Frame, lucia, host, effectCallback, Ob
 use Rattle.machine.specs.Opcodes.{Action, doing, Taken, takes, refuses, nextAction}
 use Rattle.machine.specs.Calls.{Sizes, handlersLeft, Outcome, does, stops, judge, outcome, World, world, Trace, ends, nothing, stepsOf, answerOf, givenOf, worldAfter, Turn as Phase, isDone, isHost, isReady, turnOf, Pace, free, counted, closing, failing, alone, paceOf, charge, goesOn, noTicks, tick, run, CallbackReturn, callWith, perform, tailCall, tailPerform, returnIt, errorWith, panicWith, Request, start, answer, clear, text, bytes, setGlobal, getGlobal, setBuiltin, getBuiltin, fit, answerAction, answered, idle, requestAction, requestWorld, endOf, asked, loadedMachine, loaded, load, Call, Lent, runs, asks, loads, loadTrace, callOf, callsOf}
 use Rattle.machine.specs.Store.{at-one, at-append, at-keeps, at-new}
-use Rattle.machine.specs.Demand.{Accepts, Deed, captures, sets, other, From, lastSet, countOf, markOf, Passed, Operates, handled, nobody, Performs, returning, Stored, Calls, begins, asksHost, asEffect, resumes, unfit, unfitValues, noFunction, Ticks, stays, makes, registers, noEffect, setsGlobal, returns, throws, calls, tailCalls, performs, Replies, Asks, Run, Over, Awaits, Ends, done, spent, paused, awaits, Turn, InTurn, RefusedLoad, NoLoads, Demand3}
+use Rattle.machine.specs.Demand.{Accepts, Deed, captures, sets, other, From, lastSet, countOf, markOf, Passed, Operates, handled, nobody, Performs, returning, Stored, Calls, begins, asksHost, asEffect, resumes, unfit, unfitValues, noFunction, Ticks, stays, makes, registers, noEffect, setsGlobal, returns, throws, calls, tailCalls, performs, Replies, Asks, Run, Over, Awaits, Ends, done, spent, paused, awaits, Turn, InTurn, fresh, RefusedLoad, NoLoads, Demand3}
 use Rattle.machine.specs.DemandLaws.{Known}
-use Rattle.machine.specs.Kept.{tick-law, ask-law}
-use Rattle.machine.specs.StepLaws.{if-cases, Refusal, wrongOpcode, wrongHandle, fewValues, manyFrames, noLive, noStore, manyHandlers, refusal-small, step-law, refused-step}
-use Rattle.machine.specs.RunLaws.{Ending, run-law}
+use Rattle.machine.specs.Kept.{TickLaw, AskLaw, tick-law, ask-law}
+use Rattle.machine.specs.StepLaws.{if-cases, refusal-some, refusal-small, step-law, refused-step}
+use Rattle.machine.specs.RunLaws.{Ending, Ran, run-law}
 
 -- ---- What a step of the rules does to store and globals
 abbrev setBy : Deed → List Cell → List Cell
@@ -293,15 +293,16 @@ running-law (returned v) F q = let x : _≡_ {A = ℕ} 0 1 = cc in absurd (omega
 running-law (failed y) F q = let x : _≡_ {A = ℕ} 0 1 = cc in absurd (omega arith)
 running-law (unhandled e vs) F q = let x : _≡_ {A = ℕ} 0 1 = cc in absurd (omega arith)
 
-run-runs : (P : Program) (z : Sizes) (t : ℕ) (ds : List Deed) (fuel : Fuel) (left : ℕ) (m : M) → Inv ds m → RunsAs P ds m (run P z t fuel left m)
+run-runs : (P : Program) → TickLaw P → (z : Sizes) (t : ℕ) (ds : List Deed) (fuel : Fuel) (left : ℕ) (m : M) → Inv ds m
+    → RunsAs P ds m (run P z t fuel left m)
 unfolding run noTicks tick stepsOf worldAfter
-run-runs P z zero ds fuel left m i = by (turnOf (m .result) (m .frames))
+run-runs P ticking z zero ds fuel left m i = by (turnOf (m .result) (m .frames))
   where
     by : (u : Phase) → RunsAs P ds m (noTicks fuel left u m)
     by isDone = (ds, (refl, refl), i)
     by isHost = (ds, (refl, refl), i)
     by isReady = (ds, (refl, refl), i)
-run-runs P z (suc t) ds fuel left m i = by (run-runs P z t) (turnOf (m .result) (m .frames)) refl (outcome P z (nextAction P m (m .frames)) m) refl
+run-runs P ticking z (suc t) ds fuel left m i = by (run-runs P ticking z t) (turnOf (m .result) (m .frames)) refl (outcome P z (nextAction P m (m .frames)) m) refl
   where
     by : ((ds : List Deed) (fuel : Fuel) (left : ℕ) (m : M) → Inv ds m → RunsAs P ds m (run P z t fuel left m)) → (u : Phase) → turnOf (m .result) (m .frames) ≡ u → (o : Outcome) → outcome P z (nextAction P m (m .frames)) m ≡ o
         → RunsAs P ds m (tick (run P z t) fuel left u m o)
@@ -309,7 +310,7 @@ run-runs P z (suc t) ds fuel left m i = by (run-runs P z t) (turnOf (m .result) 
     by ih isHost u o q = (ds, (refl, refl), i)
     by ih isReady u (does a m′) q =
         let e = accepts P z (nextAction P m (m .frames)) m a m′ q in
-        let s : (d : Deed) × Ticks P ds m d m′ = rw (e .1) (tick-law P ds m (i .known) a (e .0)) in
+        let s : (d : Deed) × Ticks P ds m d m′ = rw (e .1) (ticking ds m (i .known) a (e .0)) in
         let r = goes-runs P (run P z t) ih (s .0 ∷ ds) fuel left m′ (inv-step ds (s .0) m m′ i (ticks-tells P ds m (s .0) m′ (s .1))) (paceOf a) in
         (r .0, (s .0, refl, running-law (m .result) (m .frames) u, s .1, r .1), r .2)
     by ih isReady u (stops n) q = (ds, (refl, refl), i)
@@ -347,16 +348,6 @@ ready-law m q = by (m .result) (m .frames) refl refl q
     by (returned v) F a b q = let x : _≡_ {A = ℕ} 0 1 = cc in absurd (omega arith)
     by (failed y) F a b q = let x : _≡_ {A = ℕ} 0 1 = cc in absurd (omega arith)
     by (unhandled e vs) F a b q = let x : _≡_ {A = ℕ} 0 1 = cc in absurd (omega arith)
-
--- A refusal is a number from 1 on.
-refusal-some : (n : ℕ) → Refusal n → 0 < n
-refusal-some n wrongOpcode = omega arith
-refusal-some n wrongHandle = omega arith
-refusal-some n fewValues = omega arith
-refusal-some n manyFrames = omega arith
-refusal-some n noLive = omega arith
-refusal-some n noStore = omega arith
-refusal-some n manyHandlers = omega arith
 
 -- Fuel is tested after a step, never before.
 spent-stepped : (P : Program) (z : Sizes) (t : ℕ) (fuel : Fuel) (left : ℕ) (m : M) → answerOf (run P z t fuel left m) ≡ 101 → 0 < length (stepsOf (run P z t fuel left m))
@@ -407,51 +398,99 @@ request-ends P (getBuiltin g) w m = (refl, refl, refl)
 abbrev Turned : Program → Sizes → Call → List Deed → World → Trace → Type 0
 Turned P z c ds w t = (now : List Deed) × Turn P z c ds w now t × Inv now (worldAfter t .machine)
 
-call-turn : (P : Program) (z : Sizes) (c : Call) (ds : List Deed) (w : World) → Inv ds (w .machine) → RefusedLoad z c → Turned P z c ds w (callOf P z c w)
-unfolding callOf asked loadTrace stepsOf worldAfter answerOf givenOf
-call-turn P z (runs t fuel) ds w i h = by (w .wait) refl
+-- A run, given what the rules say of its ticks, its steps and how it ends.
+run-turn : (P : Program) (z : Sizes) (t : ℕ) (fuel : Fuel) (ds : List Deed) (w : World)
+    → RunsAs P ds (w .machine) (run P z t fuel (w .slice) (w .machine))
+    → Ran P z t (w .machine) (run P z t fuel (w .slice) (w .machine))
+    → Inv ds (w .machine) → Turned P z (runs t fuel) ds w (callOf P z (runs t fuel) w)
+unfolding callOf stepsOf worldAfter answerOf
+run-turn P z t fuel ds w s r i = by (w .wait) refl
   where
-    by : (b : Bool) → w .wait ≡ b → Turned P z (runs t fuel) ds w (if? b (ends 11 nothing fuel w) (run P z t fuel (w .slice) (w .machine)))
+    by : (b : Bool) → w .wait ≡ b
+        → Turned P z (runs t fuel) ds w (if? b (ends 11 nothing fuel w) (run P z t fuel (w .slice) (w .machine)))
     by true q = (ds, inl (q, refl, (refl, refl, refl)), i)
-    by false q =
-        let r = run-law P z t fuel (w .slice) (w .machine) in
-        let s = run-runs P z t ds fuel (w .slice) (w .machine) i in
-        (s .0, inr (q, r .ticks, s .1, ends-law P z t _ (spent-stepped P z t fuel (w .slice) (w .machine)) (r .ending), r .wait), s .2)
-call-turn P z (asks q) ds w i h = by (outcome P z (requestAction P q w) (w .machine)) refl
+    by false q = (
+      s .0,
+      inr (
+        q,
+        r .ticks,
+        s .1,
+        ends-law P z t _ (spent-stepped P z t fuel (w .slice) (w .machine)) (r .ending),
+        r .wait,
+      ),
+      s .2,
+    )
+
+-- A request, given what the rules say of it.
+ask-turn : (P : Program) → AskLaw P → (z : Sizes) (q : Request) (ds : List Deed) (w : World) → Inv ds (w .machine)
+    → Turned P z (asks q) ds w (asked P q w (outcome P z (requestAction P q w) (w .machine)))
+unfolding asked stepsOf worldAfter answerOf givenOf
+ask-turn P asking z q ds w i = by (outcome P z (requestAction P q w) (w .machine)) refl
   where
     by : (o : Outcome) → outcome P z (requestAction P q w) (w .machine) ≡ o → Turned P z (asks q) ds w (asked P q w o)
     by (does a m) e =
         let y = accepts P z (requestAction P q w) (w .machine) a m e in
-        let s : (d : Deed) × Asks P ds (w .machine) (w .wait) q d m (worldAfter (endOf P q w m) .wait) (givenOf (endOf P q w m) .value) = rw (y .1) (ask-law P ds q w (i .known) a (y .0)) in
+        let s : (d : Deed) × Asks P ds (w .machine) (w .wait) q d m (worldAfter (endOf P q w m) .wait)
+        (givenOf (endOf P q w m) .value) = rw (y .1) (asking ds q w (i .known) a (y .0)) in
         let r = request-ends P q w m in
-        (s .0 ∷ ds, inr (r .2, ap (λ (l : List _). suc (length l)) (r .0), s .0, refl, rw (r .1) (s .1)), rw (r .1) (inv-step ds (s .0) (w .machine) m i (asks-tells P ds (w .machine) (w .wait) q (s .0) m _ _ (s .1))))
-    by (stops n) e = let r = outcome-refuses P z (requestAction P q w) (w .machine) n (small-law P q w) e in (ds, inl (r .0, r .1, (refl, refl, refl)), i)
-call-turn P z (loads image) ds w i h = by (load image z) refl
+        let k = asks-tells P ds (w .machine) (w .wait) q (s .0) m _ _ (s .1) in (
+          s .0 ∷ ds,
+          inr (r .2, ap (λ (l : List _). suc (length l)) (r .0), s .0, refl, rw (r .1) (s .1)),
+          rw (r .1) (inv-step ds (s .0) (w .machine) m i k),
+        )
+    by (stops n) e =
+        let r = outcome-refuses P z (requestAction P q w) (w .machine) n (small-law P q w) e in
+        (ds, inl (r .0, r .1, (refl, refl, refl)), i)
+
+-- A load that is not accepted.
+load-turn : (P : Program) (z : Sizes) (image : List ℕ) (ds : List Deed) (w : World) → Inv ds (w .machine)
+    → RefusedLoad z (loads image) → Turned P z (loads image) ds w (loadTrace w (load image z))
+unfolding loadTrace stepsOf worldAfter
+load-turn P z image ds w i h = by (load image z) refl
   where
     by : (a : Answer Program) → load image z ≡ a → Turned P z (loads image) ds w (loadTrace w a)
     by (refused n) e = (ds, (refl, refl, refl), i)
     by (accepted Q) e = absurd (h Q e)
 
-calls-turn : (P : Program) (cs : List Lent) (ds : List Deed) (w : World) → Inv ds (w .machine) → NoLoads cs → (now : List Deed) × InTurn P cs ds w now (callsOf P cs w .machine) × Inv now (callsOf P cs w .machine)
+-- Any call but an accepted load.
+abbrev TurnLaw : Program → Type 0
+TurnLaw P = (z : Sizes) (c : Call) (ds : List Deed) (w : World) → Inv ds (w .machine) → RefusedLoad z c
+    → Turned P z c ds w (callOf P z c w)
+
+call-turn : (P : Program) → TickLaw P → AskLaw P → TurnLaw P
+unfolding callOf
+call-turn P ticking asking z (runs t fuel) ds w i h =
+    run-turn P z t fuel ds w (run-runs P ticking z t ds fuel (w .slice) (w .machine) i)
+    (run-law P z t fuel (w .slice) (w .machine)) i
+call-turn P ticking asking z (asks q) ds w i h = ask-turn P asking z q ds w i
+call-turn P ticking asking z (loads image) ds w i h = load-turn P z image ds w i h
+
+calls-turn : (P : Program) → TurnLaw P → (cs : List Lent) (ds : List Deed) (w : World) → Inv ds (w .machine)
+    → NoLoads cs
+    → (now : List Deed) × InTurn P cs ds w now (callsOf P cs w .machine) × Inv now (callsOf P cs w .machine)
 unfolding callsOf
-calls-turn P [] ds w i h = (ds, (refl, refl), i)
-calls-turn P (c ∷ cs) ds w i h =
-    let a = call-turn P (c .sizes) (c .call) ds w i (h .0) in
-    let b = calls-turn P cs (a .0) (worldAfter (callOf P (c .sizes) (c .call) w)) (a .2) (h .1) in
+calls-turn P turning [] ds w i h = (ds, (refl, refl), i)
+calls-turn P turning (c ∷ cs) ds w i h =
+    let a = turning (c .sizes) (c .call) ds w i (h .0) in
+    let b = calls-turn P turning cs (a .0) (worldAfter (callOf P (c .sizes) (c .call) w)) (a .2) (h .1) in
     (b .0, (a .0, a .1, b .1), b .2)
 
 inv-loaded : (P : Program) → Inv [] (loadedMachine P)
 unfolding loadedMachine
 inv-loaded P = record { known = record { known = λ k K h. absurd (no-continuation _ k K (closure-no _ _) h); some = λ k w. w }; stands = λ k K w. absurd w; globals = λ g h. getD-replicate 256 g null null h; size = length-replicate 256 null }
 
+-- What a load leaves.
+starts-law : (P : Program) → (loaded P .machine ≡ fresh (length (codeOf P 0 .captures))) × (loaded P .wait ≡ false)
+unfolding loadedMachine
+starts-law P = (refl, refl)
+
 -- Demand 3, of every list of calls from the loaded machine.
 pub demand3 : (P : Program) (cs : List Lent) → NoLoads cs → Demand3 P cs (callsOf P cs (loaded P) .machine)
-unfolding loadedMachine
 demand3 P cs h =
-    let t = calls-turn P cs [] (loaded P) (inv-loaded P) h in
+    let t = calls-turn P (call-turn P (tick-law P) (ask-law P)) cs [] (loaded P) (inv-loaded P) h in
     record {
       deeds = t .0;
-      starts = (refl, refl);
+      starts = starts-law P;
       turns = t .1;
       continuations = t .2 .known .known;
       captures = t .2 .stands;
