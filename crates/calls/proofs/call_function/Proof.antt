@@ -4,6 +4,12 @@ use Rattle.calls.specs.Calling.{call-begins, call-other}
 use Rattle.calls.proofs.call_function.Statement.{statement}
 use Rattle.calls.proofs.call_function.Tie as tie
 
+no-frame-requires : tie.Need-no-frame-requires
+no-frame-requires c κs = (search call-other, search needs)
+
+returns : tie.Need-returns
+returns c = search call-begins
+
 pub call-function-spec : {M : Type 1} → statement M
 call-function-spec =
     tie.close
@@ -12,6 +18,6 @@ call-function-spec =
     (λ c κs. search needs)
     (λ c. search needs)
     (λ c. search needs)
-    (λ c κs. (search call-other, search needs))
-    (λ c. search call-begins)
+    no-frame-requires
+    returns
     (λ c. search needs))

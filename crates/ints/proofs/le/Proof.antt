@@ -5,5 +5,8 @@ use Rattle.ints.proofs.Laws.{le-is}
 use Rattle.ints.proofs.le.Statement.{statement}
 use Rattle.ints.proofs.le.Tie as tie
 
+returns : tie.Need-returns
+returns c = le-is half _ _ (c .lt .ensures)
+
 pub le-spec : {M : Type 1} → statement M
-le-spec = tie.close (tie.spec (λ c κs. search needs) (λ c. le-is half _ _ (c .lt .ensures)))
+le-spec = tie.close (tie.spec (λ c κs. search needs) returns)

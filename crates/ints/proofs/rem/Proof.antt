@@ -5,5 +5,17 @@ use Rattle.ints.proofs.Laws.{divided-none, divided-some, abs-some}
 use Rattle.ints.proofs.rem.Statement.{statement}
 use Rattle.ints.proofs.rem.Tie as tie
 
+returns : tie.Need-returns
+returns c = divided-none _ (c .if1 .taken)
+
+rem-n : tie.Need-rem-n
+rem-n c = search (abs-some half)
+
+returns-2 : tie.Need-returns-2
+returns-2 c = divided-some _ (c .before .before .before .before .if1 .left) (cc)
+
 pub rem-spec : {M : Type 1} → statement M
-rem-spec = tie.close (tie.spec (λ c. divided-none _ (c .if1 .taken)) (λ c κs. search needs) (λ c κs. search needs) (λ c. search (abs-some half)) (λ c κs. search needs) (λ c κs. search needs) (λ c. divided-some _ (c .before .before .before .before .if1 .left) (cc)))
+rem-spec =
+    tie.close
+    (tie.spec returns (λ c κs. search needs) (λ c κs. search needs) rem-n (λ c κs. search needs) (λ c κs. search needs)
+    returns-2)

@@ -4,10 +4,16 @@ use Rattle.scan.specs.Values.{effect-not, effect-value}
 use Rattle.scan.proofs.effect_fits.Statement.{statement}
 use Rattle.scan.proofs.effect_fits.Tie as tie
 
+returns : tie.Need-returns
+returns c = search effect-not
+
+returns-2 : tie.Need-returns-2
+returns-2 c = search effect-value
+
 pub effect-fits-spec : {M : Type 1} → statement M
 effect-fits-spec =
     tie.close
     (tie.spec
-    (λ c. search effect-not)
+    returns
     (λ c κs. search needs)
-    (λ c. search effect-value))
+    returns-2)

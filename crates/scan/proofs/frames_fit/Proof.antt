@@ -13,6 +13,9 @@ Inv-loop image rows constants inner codes store below x n at₀ i₀ at i = Fram
 abbrev μ-loop : tie.MeasureT-loop
 μ-loop image rows constants inner codes store below x n at₀ i₀ at i = n - i
 
+returns-2 : tie.Need-returns-2 Inv-loop μ-loop
+returns-2 c = frames-all (c .before .loop .inv) (c .loop-test .left)
+
 pub frames-fit-spec : {M : Type 1} → statement M
 frames-fit-spec =
     tie.close
@@ -27,4 +30,4 @@ frames-fit-spec =
     (λ c. search needs)
     (λ c. search needs)
     (λ c. frames-more (c .before .before .before .before .before .loop .inv) (c .before .before .before .before .loop-test .taken) (c .before .before .before .frame-fits .ensures) (c .before .end .given .1))
-    (λ c. frames-all (c .before .loop .inv) (c .loop-test .left)))
+    returns-2)

@@ -7,6 +7,12 @@ use Rattle.scan.specs.Heads.{lucia-kind, lucia-plain, lucia-closure, luc
 use Rattle.scan.proofs.lucia_fits.Statement.{statement}
 use Rattle.scan.proofs.lucia_fits.Tie as tie
 
+returns-6 : tie.Need-returns-6
+returns-6 c = search (lucia-locals, c .if6 .taken)
+
+returns-7 : tie.Need-returns-7
+returns-7 c = search lucia-fits
+
 pub lucia-fits-spec : {M : Type 1} → statement M
 lucia-fits-spec =
     tie.close
@@ -29,5 +35,5 @@ lucia-fits-spec =
     (λ c κs. search needs)
     (λ c κs. search needs)
     (λ c. search needs)
-    (λ c. search (lucia-locals, c .if6 .taken))
-    (λ c. search lucia-fits))
+    returns-6
+    returns-7)

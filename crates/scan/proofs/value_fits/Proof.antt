@@ -4,6 +4,12 @@ use Rattle.scan.specs.Values.{value-null, value-null-not, value-bool, va
 use Rattle.scan.proofs.value_fits.Statement.{statement}
 use Rattle.scan.proofs.value_fits.Tie as tie
 
+returns-14 : tie.Need-returns-14
+returns-14 c = search value-builtin
+
+returns-15 : tie.Need-returns-15
+returns-15 c = search value-builtin-not
+
 pub value-fits-spec : {M : Type 1} → statement M
 value-fits-spec =
     tie.close
@@ -27,8 +33,8 @@ value-fits-spec =
     (λ c. search value-list-not)
     (λ c. search value-closure)
     (λ c. search value-closure-not)
-    (λ c. search value-builtin)
-    (λ c. search value-builtin-not)
+    returns-14
+    returns-15
     (λ c. search value-message)
     (λ c. search value-message-high)
     (λ c. search value-continuation)

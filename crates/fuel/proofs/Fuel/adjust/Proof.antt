@@ -4,5 +4,8 @@ use Rattle.fuel.proofs.Laws.{adjust-is}
 use Rattle.fuel.proofs.Fuel.adjust.Statement.{statement}
 use Rattle.fuel.proofs.Fuel.adjust.Tie as tie
 
+returns : tie.Need-returns
+returns c = search adjust-is
+
 pub adjust-spec : {M : Type 1} → statement M
-adjust-spec = tie.close (tie.spec (λ c κs. search needs) (λ c κs. search needs) (λ c. search adjust-is))
+adjust-spec = tie.close (tie.spec (λ c κs. search needs) (λ c κs. search needs) returns)
