@@ -10,9 +10,6 @@ use Rattle.scan.proofs.lucia_fits.Tie as tie
 returns-6 : tie.Need-returns-6
 returns-6 c = search (lucia-locals, c .if6 .taken)
 
-returns-7 : tie.Need-returns-7
-returns-7 c = search lucia-fits
-
 pub lucia-fits-spec : {M : Type 1} → statement M
 lucia-fits-spec =
     tie.close
@@ -36,4 +33,4 @@ lucia-fits-spec =
     (λ c κs. search needs)
     (λ c. search needs)
     returns-6
-    returns-7)
+    (λ c. search lucia-fits))
