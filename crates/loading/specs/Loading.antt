@@ -1,9 +1,9 @@
 -- A load: what its inner functions give and leave is what the machine's definitions say.
-use mathlib.Core.Path.{_≡_, refl, sym, ap, _∙_}
+use mathlib.Core.Path.{_≡_, refl, sym, ap, subst, _∙_}
 use mathlib.Core.List.{List, _++_, _∷_, append-nil}
-use Prim.Native.Nat.{ℕ, _+_, _<_, _≤_, _*_}
+use Prim.Native.Nat.{ℕ, suc, _+_, _<_, _≤_, _*_, min}
 use native.Mathlib.Omega.{arith}
-use lib.ListN.{length, getD, take, drop, replicate, length-take, length-replicate}
+use lib.ListN.{length, getD, take, drop, replicate, length-take, length-replicate, replicate-append-replicate}
 use lib.Seq.{getD-take}
 use borrow.Author.Tests.{eq-eqb, ne-eqb, lt-ltb, le-ltb}
 use Rattle.cells.specs.Cells.{null, cells, Writes, room}
@@ -19,7 +19,7 @@ use Rattle.layout.specs.declared.Read.{Read}
 use Rattle.reader.specs.Reads.{Reads}
 use Rattle.machine.specs.Values.{Program, closureAt, cell}
 use Rattle.machine.specs.Machine.{used, cost}
-use Rattle.machine.specs.Calls.{loaded, loadedMachine, loadOf, programOf, load}
+use Rattle.machine.specs.Calls.{Sizes, loaded, loadedMachine, loadOf, programOf, load}
 use Rattle.memory.specs.Layout.{stateCells, resultShown, storeCells, objectCells}
 use Rattle.form.specs.Entry.{storeOf}
 use Rattle.asks.specs.Asks.{sizesOf, gotOf, loading, loadAnswer, LoadLeft, Loaded}
@@ -58,8 +58,18 @@ captures-few image {n} h = by (parse image) refl h
 pub load-few : (image : List ℕ) {n : ℕ} {o : Outermost} → o ≡ outermostOf (parse image) → o ≡ Captures n → n ≤ 256
 load-few image h e = captures-few image (sym e ∙ h)
 
-nulls : _≡_ {A = List Cell} (replicate 514 null) (null ∷ null ∷ (replicate 256 null ++ replicate 256 null))
-nulls = refl
+-- for all m, so that no list of 512 cells is computed
+nulls : {a b : ℕ} (m : ℕ) → a ≡ b
+    → _≡_ {A = List Cell} (cell 1 0 a ∷ cell 64 0 0 ∷ replicate (suc (suc (m + m))) null)
+    (cell 1 0 b ∷ cell 64 0 0 ∷ null ∷ null ∷ (replicate m null ++ replicate m null))
+nulls m e = rw (e, replicate-append-replicate m m null)
+
+-- over plain values: `omega` and `rw` would compute the first 65,536 cells of the store
+too-few : {t r s u n : ℕ} → t ≡ min 65536 r → r ≡ s → n ≤ 256 → u ≡ 1 + n → s < 1 + n → t < u
+too-few a b c d e = omega arith
+
+enough : {t r s u n : ℕ} → t ≡ min 65536 r → r ≡ s → n ≤ 256 → u ≡ 1 + n → 1 + n ≤ s → u ≤ t
+enough a b c d e = omega arith
 
 module _ (image state live store : List ℕ) where
   abbrev Both : Answer Program → Got → List ℕ → List ℕ → Type 0
@@ -101,7 +111,7 @@ module _ (image state live store : List ℕ) where
       -- what is written is what the loaded world is written as
       block-is : (cs : List Code) → n ≡ length (getD cs 0 noCode .captures) → freshState n ≡ stateCells (loaded (of cs))
       unfolding loadedMachine resultShown
-      block-is cs e = rw (cost-is cs e, nulls)
+      block-is cs e = nulls 256 (sym (cost-is cs e))
 
       objects-are : (cs : List Code) → n ≡ length (getD cs 0 noCode .captures) → freshStore n ≡ storeCells (loadedMachine (of cs) .store)
       unfolding loadedMachine storeCells objectCells
@@ -112,24 +122,39 @@ module _ (image state live store : List ℕ) where
       few : n ≤ 256
       few = captures-few image h
 
+      module _ (cs : List Code) (z : Sizes) where
+        full-is : z .store < used (loadedMachine (of cs) .store)
+            → loadOf image z (programOf image (accepted cs)) ≡ refused 15
+        unfolding loadOf programOf
+        full-is l = rw (lt-ltb (z .store) (used (loadedMachine (of cs) .store)) l)
+
+        fresh-is : used (loadedMachine (of cs) .store) ≤ z .store
+            → loadOf image z (programOf image (accepted cs)) ≡ accepted (of cs)
+        unfolding loadOf programOf
+        fresh-is l = rw (le-ltb (z .store) (used (loadedMachine (of cs) .store)) l)
+
       at-full : room store < 1 + n → Loaded image state live store (gotOf 15 null) state store
-      unfolding loadOf programOf loadAnswer
+      unfolding loadAnswer
       at-full l = onLoad (by (parse image) h)
         where
           by : (x : Answer (List Code)) → Captures n ≡ outermostOf x → Both (loadOf image (sizesOf live store) (programOf image x)) (gotOf 15 null) state store
           by (refused m) h = let z : _≡_ {A = ℕ} 0 1 = cc in absurd (omega arith)
           by (accepted cs) h = let e : n ≡ length (getD cs 0 noCode .captures) = cc in
-              rw (lt-ltb (length (storeOf store)) (used (loadedMachine (of cs) .store)) (omega (arith, few, cost-is cs e, length-take 65536 (cells store), length-cells store))) (refl, (refl, refl))
+              let t = too-few (length-take 65536 (cells store)) (length-cells store) few (cost-is cs e) l in
+              let q = full-is cs (sizesOf live store) t in
+              subst (λ (x : Answer Program). Both x (gotOf 15 null) state store) (sym q) (refl, (refl, refl))
 
       at-fresh : 1 + n ≤ room store → {state′ store′ : List ℕ} → Writes state (freshState n) state′ → Writes store (freshStore n ++ drop (1 + n) (cells store)) store′
           → Loaded image state live store (gotOf 0 (closureAt 0)) state′ store′
-      unfolding loadOf programOf loadAnswer
+      unfolding loadAnswer
       at-fresh l {state′} {store′} a b = onLoad (by (parse image) h)
         where
           by : (x : Answer (List Code)) → Captures n ≡ outermostOf x → Both (loadOf image (sizesOf live store) (programOf image x)) (gotOf 0 (closureAt 0)) state′ store′
           by (refused m) h = let z : _≡_ {A = ℕ} 0 1 = cc in absurd (omega arith)
           by (accepted cs) h = let e : n ≡ length (getD cs 0 noCode .captures) = cc in
-              rw (le-ltb (length (storeOf store)) (used (loadedMachine (of cs) .store)) (omega (arith, few, cost-is cs e, length-take 65536 (cells store), length-cells store)))
+              let t = enough (length-take 65536 (cells store)) (length-cells store) few (cost-is cs e) l in
+              let q = fresh-is cs (sizesOf live store) t in
+              subst (λ (x : Answer Program). Both x (gotOf 0 (closureAt 0)) state′ store′) (sym q)
               (refl, record { block = a .cells ∙ block-is cs e; len = a .len; objects = rw (← objects-are cs e, cost-is cs e) b })
 
   -- the returns of the load, with the answer as it is made
