@@ -1,5 +1,4 @@
 -- `callbacks::answer` meets its contract. Assumes nothing.
-use borrow.Author.Needs.{needs}
 use Rattle.callbacks.specs.AnswerLaws.{used-fits, answer-early, answer-malformed, answer-unfit, answer-replyable, answer-replied}
 use Rattle.callbacks.proofs.answer.Statement.{statement}
 use Rattle.callbacks.proofs.answer.Tie as tie
@@ -23,21 +22,21 @@ pub answer-spec : {M : Type 1} → statement M
 answer-spec =
     tie.close
     (tie.spec
-    (λ c κs. search needs)
-    (λ c. search needs)
+    (λ c κs. search)
+    (λ c. search)
     (λ c. search answer-early)
-    (λ c κs. search needs)
-    (λ c. search needs)
-    (λ c. search needs)
-    (λ c κs. search needs)
+    (λ c κs. search)
+    (λ c. search)
+    (λ c. search)
+    (λ c κs. search)
     fits-requires
-    (λ c. search needs)
-    (λ c. search needs)
+    (λ c. search)
+    (λ c. search)
     returns-2
     reply-requires
-    (λ c. search needs)
+    (λ c. search)
     returns-3
-    (λ c. search needs)
-    (λ c. search needs)
-    (λ c. search needs)
+    (λ c. search)
+    (λ c. search)
+    (λ c. search)
     returns-4)

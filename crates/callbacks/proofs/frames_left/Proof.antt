@@ -1,5 +1,4 @@
 -- `callbacks::frames_left` meets its contract. Assumes nothing.
-use borrow.Author.Needs.{needs}
 use Rattle.callbacks.specs.LeftLaws.{left-many, left-call, left-tail-call, left-tail-perform, left-return, left-perform, left-error, left-panic}
 use Rattle.callbacks.proofs.frames_left.Statement.{statement}
 use Rattle.callbacks.proofs.frames_left.Tie as tie
@@ -8,20 +7,20 @@ pub frames-left-spec : {M : Type 1} → statement M
 frames-left-spec =
     tie.close
     (tie.spec
-    (λ c. search needs)
-    (λ c. search needs)
-    (λ c κs. search needs)
-    (λ c. search needs)
-    (λ c. search needs)
-    (λ c. search needs)
-    (λ c. search needs)
-    (λ c. search needs)
-    (λ c. search needs)
-    (λ c. search needs)
-    (λ c. search needs)
-    (λ c. search needs)
+    (λ c. search)
+    (λ c. search)
+    (λ c κs. search)
+    (λ c. search)
+    (λ c. search)
+    (λ c. search)
+    (λ c. search)
+    (λ c. search)
+    (λ c. search)
+    (λ c. search)
+    (λ c. search)
+    (λ c. search)
     (λ c. search left-many)
-    (λ c. search needs)
+    (λ c. search)
     (λ c. search left-call)
     (λ c. search left-perform)
     (λ c. search left-tail-call)

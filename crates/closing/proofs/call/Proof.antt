@@ -94,19 +94,19 @@ call-spec =
     tie.close
     (tie.spec
     settle-requires
-    (λ c. search needs)
+    (λ c. search)
     returns
     top-requires
     (λ c. search needs)
     left-of-requires
-    (λ c κs. search needs)
-    (λ c κs. search needs)
-    (λ c κs. search needs)
+    (λ c κs. search)
+    (λ c κs. search)
+    (λ c κs. search)
     fail-requires
-    (λ c. search needs)
-    (λ c. search needs)
-    (λ c. search needs)
-    (λ c. search needs)
+    (λ c. search)
+    (λ c. search)
+    (λ c. search)
+    (λ c. search)
     returns-2
     end-requires
     (λ c. search needs)
@@ -116,20 +116,20 @@ call-spec =
     slice-aggregate-given
     end-requires-2
     frame-of-requires
-    (λ c. search needs)
+    (λ c. search)
     start-requires
-    (λ c. search needs)
-    (λ c. search needs)
-    (λ c. search needs)
-    (λ c. search needs)
+    (λ c. search)
+    (λ c. search)
+    (λ c. search)
+    (λ c. search)
     same-length-10
     returns-3
-    (λ c. search needs)
+    (λ c. search)
     call-function-requires
     over-requires
-    (λ c. search needs)
-    (λ c. search needs)
-    (λ c. search needs)
-    (λ c. search needs)
+    (λ c. search)
+    (λ c. search)
+    (λ c. search)
+    (λ c. search)
     same-length-15
     returns-4)

@@ -1,6 +1,5 @@
 -- `closing::close` meets its contract: the kind of the opcode gives its number. Assumes nothing.
 use Rattle.closing.specs.CloseLaws.{closable-call, closable-tail, closes-call, closes-return, closes-tail}
-use borrow.Author.Needs.{needs}
 use Rattle.closing.proofs.close.Statement.{statement}
 use Rattle.closing.proofs.close.Tie as tie
 
@@ -21,26 +20,26 @@ pub close-spec : {M : Type 1} → statement M
 close-spec =
     tie.close
     (tie.spec
-    (λ c. search needs)
+    (λ c. search)
     call-requires
-    (λ c. search needs)
-    (λ c κs. search needs)
-    (λ c. search needs)
+    (λ c. search)
+    (λ c κs. search)
+    (λ c. search)
     (λ c κs. search closable-tail)
-    (λ c. search needs)
-    (λ c. search needs)
-    (λ c. search needs)
-    (λ c. search needs)
-    (λ c. search needs)
+    (λ c. search)
+    (λ c. search)
+    (λ c. search)
+    (λ c. search)
+    (λ c. search)
     returns
-    (λ c. search needs)
-    (λ c. search needs)
-    (λ c. search needs)
-    (λ c. search needs)
+    (λ c. search)
+    (λ c. search)
+    (λ c. search)
+    (λ c. search)
     returns-2
-    (λ c. search needs)
-    (λ c. search needs)
-    (λ c. search needs)
-    (λ c. search needs)
-    (λ c. search needs)
+    (λ c. search)
+    (λ c. search)
+    (λ c. search)
+    (λ c. search)
+    (λ c. search)
     returns-3)

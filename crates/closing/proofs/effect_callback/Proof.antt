@@ -69,9 +69,9 @@ effect-callback-spec =
     slice-reshare-prefix-below
     slice-aggregate-below
     below-requires
-    (λ c. search needs)
-    (λ c. search needs)
-    (λ c. search needs)
-    (λ c. search needs)
-    (λ c. search needs)
+    (λ c. search)
+    (λ c. search)
+    (λ c. search)
+    (λ c. search)
+    (λ c. search)
     returns)

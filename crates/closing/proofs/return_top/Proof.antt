@@ -34,22 +34,22 @@ return-top-spec =
     tie.close
     (tie.spec
     settle-requires
-    (λ c. search needs)
+    (λ c. search)
     returns
     sub-under
     top-requires
     receive-requires
-    (λ c. search needs)
-    (λ c. search needs)
-    (λ c. search needs)
-    (λ c. search needs)
+    (λ c. search)
+    (λ c. search)
+    (λ c. search)
+    (λ c. search)
     returns-2
-    (λ c κs. search needs)
+    (λ c κs. search)
     (λ c. search needs)
-    (λ c. search needs)
+    (λ c. search)
     below-requires
-    (λ c. search needs)
-    (λ c. search needs)
-    (λ c. search needs)
-    (λ c. search needs)
+    (λ c. search)
+    (λ c. search)
+    (λ c. search)
+    (λ c. search)
     returns-3)

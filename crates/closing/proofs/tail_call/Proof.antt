@@ -56,19 +56,19 @@ tail-call-spec =
     tie.close
     (tie.spec
     settle-requires
-    (λ c. search needs)
+    (λ c. search)
     returns
     top-requires
-    (λ c κs. search needs)
+    (λ c κs. search)
     (λ c. search needs)
     left-of-requires
-    (λ c κs. search needs)
-    (λ c κs. search needs)
+    (λ c κs. search)
+    (λ c κs. search)
     fail-requires
-    (λ c. search needs)
-    (λ c. search needs)
-    (λ c. search needs)
-    (λ c. search needs)
+    (λ c. search)
+    (λ c. search)
+    (λ c. search)
+    (λ c. search)
     returns-2
     end-requires
     (λ c. search needs)
@@ -79,9 +79,9 @@ tail-call-spec =
     sub-under
     call-function-requires
     below-requires
-    (λ c. search needs)
-    (λ c. search needs)
-    (λ c. search needs)
-    (λ c. search needs)
-    (λ c. search needs)
+    (λ c. search)
+    (λ c. search)
+    (λ c. search)
+    (λ c. search)
+    (λ c. search)
     returns-3)
