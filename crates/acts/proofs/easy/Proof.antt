@@ -33,13 +33,13 @@ returns-3 c =
     let y = c .before .before .before .before .before in
     let d = y .before .before .before in
     let p = d .before .before .before .before .before .pre in
-    eases (d .plan .given .1) p (y .before .number .ensures) (y .payload .ensures) (c .before .room .ensures) (search needs) (search needs)
+    eases (d .plan .given .1) p (y .before .number .ensures) (y .payload .ensures) (c .before .room .ensures) (search) (search)
 
 pub easy-spec : {M : Type 1} → statement M
 easy-spec =
     tie.close
     (tie.spec
-    (λ c. search needs)
+    (λ c. search)
     number-requires
     (λ c. search needs)
     payload-requires
@@ -47,7 +47,7 @@ easy-spec =
     (λ c. eases-none)
     add-if2
     add-if2-2
-    (λ c κs. search needs)
+    (λ c κs. search)
     (λ c. eases-none)
     returns-3
     (λ c. eases-none))

@@ -1,6 +1,5 @@
 -- `acts::judge` meets its contract: a law for each return, over the numbers that the plan leaves. Assumes nothing.
 use Rattle.acts.specs.ActedLaws.{judge-counts, judge-refused, judge-done}
-use borrow.Author.Needs.{needs}
 use Rattle.acts.proofs.judge.Statement.{statement}
 use Rattle.acts.proofs.judge.Tie as tie
 
@@ -18,8 +17,8 @@ judge-spec =
     tie.close
     (tie.spec
     counts-after-requires
-    (λ c κs. search needs)
-    (λ c κs. search needs)
-    (λ c κs. search needs)
+    (λ c κs. search)
+    (λ c κs. search)
+    (λ c κs. search)
     returns
     returns-2)

@@ -32,16 +32,16 @@ receive-spec =
     tie.close
     (tie.spec
     received-requires
-    (λ c κs. search needs)
-    (λ c κs. search needs)
-    (λ c κs. search needs)
+    (λ c κs. search)
+    (λ c κs. search)
+    (λ c κs. search)
     settle-requires
-    (λ c. search needs)
+    (λ c. search)
     returns
     sub-top
     (λ c. search needs)
     (λ c. search needs)
     cast-receive
     receive-requires
-    (λ c. search needs)
+    (λ c. search)
     returns-2)

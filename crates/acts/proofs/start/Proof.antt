@@ -6,7 +6,7 @@ use Rattle.acts.proofs.start.Statement.{statement}
 use Rattle.acts.proofs.start.Tie as tie
 
 started-requires : tie.Need-started-requires
-started-requires c κs = start-counts _ (c .before .before .before .before .before .before .before .pre) (c .room .ensures) (search needs)
+started-requires c κs = start-counts _ (c .before .before .before .before .before .before .before .pre) (c .room .ensures) (search)
 
 settle-requires : tie.Need-settle-requires
 settle-requires c κs = search over-settles
@@ -37,18 +37,18 @@ start-spec =
     tie.close
     (tie.spec
     (λ c. search needs)
-    (λ c κs. search needs)
+    (λ c κs. search)
     started-requires
-    (λ c κs. search needs)
-    (λ c κs. search needs)
-    (λ c κs. search needs)
+    (λ c κs. search)
+    (λ c κs. search)
+    (λ c κs. search)
     settle-requires
-    (λ c. search needs)
-    (λ c. search needs)
+    (λ c. search)
+    (λ c. search)
     returns
     settle-requires-2
     start-frame-requires
     (λ c. search needs)
-    (λ c. search needs)
-    (λ c. search needs)
+    (λ c. search)
+    (λ c. search)
     returns-2)
