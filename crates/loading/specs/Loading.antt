@@ -58,13 +58,13 @@ captures-few image {n} h = by (parse image) refl h
 pub load-few : (image : List ℕ) {n : ℕ} {o : Outermost} → o ≡ outermostOf (parse image) → o ≡ Captures n → n ≤ 256
 load-few image h e = captures-few image (sym e ∙ h)
 
--- for all m, so that no list of 512 cells is computed
+-- the state block's last cells, for any number m of globals and of builtins
 nulls : {a b : ℕ} (m : ℕ) → a ≡ b
     → _≡_ {A = List Cell} (cell 1 0 a ∷ cell 64 0 0 ∷ replicate (suc (suc (m + m))) null)
     (cell 1 0 b ∷ cell 64 0 0 ∷ null ∷ null ∷ (replicate m null ++ replicate m null))
 nulls m e = rw (e, replicate-append-replicate m m null)
 
--- over plain values: `omega` and `rw` would compute the first 65,536 cells of the store
+-- over plain values: on terms of the store's first 65,536 cells `omega` and `rw` take seconds
 too-few : {t r s u n : ℕ} → t ≡ min 65536 r → r ≡ s → n ≤ 256 → u ≡ 1 + n → s < 1 + n → t < u
 too-few a b c d e = omega arith
 

@@ -8,13 +8,13 @@ pub acted-spec : {M : Type 1} → statement M
 acted-spec =
     tie.close
     (tie.spec
-    (λ c. search needs)
-    (λ c κs. search needs)
-    (λ c. search needs)
-    (λ c. search needs)
-    (λ c κs. search needs)
-    (λ c. search needs)
-    (λ c. search needs)
+    (λ c. search)
+    (λ c κs. search)
+    (λ c. search)
+    (λ c. search)
+    (λ c κs. search)
+    (λ c. search)
+    (λ c. search)
     (λ c κs. search needs)
     (λ c. search acted-refused)
     (λ c. search acted-done)

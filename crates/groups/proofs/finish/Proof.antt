@@ -50,35 +50,35 @@ finish-spec =
     tie.close
     (tie.spec
     end-requires
-    (λ c. search needs)
+    (λ c. search)
     settle-requires
-    (λ c κs. search needs)
-    (λ c. search needs)
+    (λ c κs. search)
+    (λ c. search)
     settle-requires-2
     (λ c κs. search needs)
-    (λ c. search needs)
+    (λ c. search)
     settle-requires-3
-    (λ c κs. search needs)
-    (λ c. search needs)
+    (λ c κs. search)
+    (λ c. search)
     fail-requires
     acted-requires
-    (λ c. search needs)
+    (λ c. search)
     close-requires
     acted-requires-2
-    (λ c. search needs)
+    (λ c. search)
     returns
-    (λ c. search needs)
+    (λ c. search)
     returns-2
-    (λ c. search needs)
+    (λ c. search)
     returns-3
-    (λ c. search needs)
-    (λ c. search needs)
-    (λ c. search needs)
-    (λ c. search needs)
+    (λ c. search)
+    (λ c. search)
+    (λ c. search)
+    (λ c. search)
     returns-4
-    (λ c. search needs)
-    (λ c. search needs)
-    (λ c. search needs)
-    (λ c. search needs)
-    (λ c. search needs)
+    (λ c. search)
+    (λ c. search)
+    (λ c. search)
+    (λ c. search)
+    (λ c. search)
     returns-5)

@@ -40,8 +40,8 @@ run-entered-spec =
     tie.close
     (tie.spec
     (λ c. search needs)
-    (λ c κs. search needs)
-    (λ c κs. search needs)
+    (λ c κs. search)
+    (λ c κs. search)
     slice-aggregate-run-lent
     slice-aggregate-run-lent-2
     slice-aggregate-run-lent-3
@@ -50,7 +50,7 @@ run-entered-spec =
     slice-relend-prefix-run-lent-2
     slice-aggregate-run-lent-5
     run-lent-requires
-    (λ c. search needs)
-    (λ c. search needs)
-    (λ c. search needs)
+    (λ c. search)
+    (λ c. search)
+    (λ c. search)
     returns)

@@ -34,28 +34,28 @@ run-quick-spec =
     Inv-loop
     μ-loop
     (λ c. omega (arith, code-low (c .before .before .before .before .before .before .before .pre)))
-    (λ c κs. search needs)
+    (λ c κs. search)
     (λ c. omega (arith, c .entry .ensures .fits))
     (λ c. search looping-first)
-    (λ c κs. search needs)
-    (λ c. search needs)
+    (λ c κs. search)
+    (λ c. search)
     (λ c. search quickens)
     opcode-at-requires
     (λ c κs. search place-low)
     quick-step-requires
-    (λ c. search needs)
-    (λ c. search needs)
+    (λ c. search)
+    (λ c. search)
     (λ c. search needs)
     (λ c. search needs)
     loop-again
-    (λ c. search needs)
-    (λ c. search needs)
+    (λ c. search)
+    (λ c. search)
     (λ c. search needs)
     loop-again-2
-    (λ c. search needs)
-    (λ c κs. search needs)
+    (λ c. search)
+    (λ c κs. search)
     (λ c. returns-2 c .sameLive .len)
     returns-2
-    (λ c κs. search needs)
-    (λ c. search needs)
+    (λ c κs. search)
+    (λ c. search)
     (λ c. search quickens))

@@ -50,7 +50,7 @@ run-slice-spec =
     μ-loop
     (λ c. search looping-first)
     (λ c κs. search some-sliceable)
-    (λ c κs. search needs)
+    (λ c κs. search)
     (λ c. returns c .sameState .len)
     (λ c. returns c .sameLive .len)
     (λ c. returns c .appends .len)
@@ -58,9 +58,9 @@ run-slice-spec =
     (λ c κs. opcode-there (loops-quick (c .before .before .before .before .before .before .before .before .before .loop .inv) (c .before .before .before .before .run-quick .ensures)))
     (λ c κs. place-low (loops-quick (c .before .before .before .before .before .before .before .before .before .before .before .before .before .loop .inv) (c .before .before .before .before .before .before .before .before .run-quick .ensures)))
     step-requires
+    (λ c. search)
     (λ c. search needs)
-    (λ c. search needs)
-    (λ c κs. search needs)
+    (λ c κs. search)
     (λ c. returns-2 c .sameState .len)
     (λ c. returns-2 c .sameLive .len)
     (λ c. returns-2 c .appends .len)
@@ -68,30 +68,30 @@ run-slice-spec =
     (λ c. search needs)
     loop-less
     loop-again
-    (λ c. search needs)
+    (λ c. search)
     (λ c. search needs)
     loop-less-2
     loop-again-2
-    (λ c. search needs)
-    (λ c κs. search needs)
+    (λ c. search)
+    (λ c κs. search)
     (λ c. returns-3 c .sameState .len)
     (λ c. returns-3 c .sameLive .len)
     (λ c. returns-3 c .appends .len)
     returns-3
-    (λ c. search needs)
-    (λ c κs. search needs)
+    (λ c. search)
+    (λ c κs. search)
     (λ c. returns-4 c .sameState .len)
     (λ c. returns-4 c .sameLive .len)
     (λ c. returns-4 c .appends .len)
     returns-4
-    (λ c. search needs)
-    (λ c κs. search needs)
+    (λ c. search)
+    (λ c κs. search)
     (λ c. returns-5 c .sameState .len)
     (λ c. returns-5 c .sameLive .len)
     (λ c. returns-5 c .appends .len)
     returns-5
-    (λ c κs. search needs)
-    (λ c. search needs)
-    (λ c. search needs)
-    (λ c. search needs)
+    (λ c κs. search)
+    (λ c. search)
+    (λ c. search)
+    (λ c. search)
     (λ c. search ends-paused))
