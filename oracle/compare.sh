@@ -8,7 +8,7 @@ calls=oracle/target/release/calls
 work=$(mktemp -d)
 trap 'rm -rf "$work"' EXIT
 "$calls" cases oracle/cases/*.case
-# Two lists for each seed, as two processes from seeds far apart: counted, not timed, so that it plays the same beside other work. Some three minutes of a core.
+# Two lists for each seed, as two processes from seeds far apart: counted, not timed, so that it plays the same beside other work.
 "$calls" lists 5000001 25000 > "$work/lists" &
 "$calls" lists 1 25000
 wait $! || { cat "$work/lists"; exit 1; }
