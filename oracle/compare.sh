@@ -9,8 +9,8 @@ work=$(mktemp -d)
 trap 'rm -rf "$work"' EXIT
 "$calls" cases oracle/cases/*.case
 # Two lists for each seed, as two processes from seeds far apart: counted, not timed, so that it plays the same beside other work.
-"$calls" lists 5000001 25000 > "$work/lists" &
-"$calls" lists 1 25000
+"$calls" lists 5000001 36000 > "$work/lists" &
+"$calls" lists 1 36000
 wait $! || { cat "$work/lists"; exit 1; }
 cat "$work/lists"
 "$calls" damage 1 500000
