@@ -12,7 +12,7 @@ use moves::Running;
 use plan::{Counts, Error, Params, Plan, Start};
 
 // Refused, or what the machine has then: the step is done, or its own error is thrown.
-#[derive(Drop)]
+#[derive(Clone, Copy)]
 pub enum Acted {
     Refused(u32),
     Done(Counts),

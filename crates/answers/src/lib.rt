@@ -10,7 +10,7 @@ ghost use Rattle.answers.specs.Different.{Keeps};
 use cells::Cell;
 
 // Handlers that are put in: 17 different ones are too many; else where the frame ends then.
-#[derive(Drop)]
+#[derive(Clone, Copy)]
 pub enum Put {
     TooMany,
     End(usize),

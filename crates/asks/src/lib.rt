@@ -14,7 +14,7 @@ use layout::Read;
 
 // A code and a value.
 #[repr(C)]
-#[derive(Drop)]
+#[derive(Clone, Copy)]
 pub struct Got {
     pub code: u32,
     pub low: u64,
@@ -23,7 +23,7 @@ pub struct Got {
 
 // A code and a part: from 0 of the image, from 1 of the page.
 #[repr(C)]
-#[derive(Drop)]
+#[derive(Clone, Copy)]
 pub struct Part {
     pub code: u32,
     pub from: u32,
@@ -32,14 +32,14 @@ pub struct Part {
 }
 
 // What the entry of a call comes to: a refusal, or memory in form.
-#[derive(Drop)]
+#[derive(Clone, Copy)]
 pub enum Entry {
     Refused(u32),
     InForm,
 }
 
 // What the entry of a call with a value comes to: place and size of the Str or Bytes that it names, 0 if it names none.
-#[derive(Drop)]
+#[derive(Clone, Copy)]
 pub enum Named {
     NotEntered(u32),
     Unknown,

@@ -15,7 +15,7 @@ use plan::Counts;
 use replies::{CallbackReturn, Reply};
 
 // The frames left of an answer: 17 different handlers are too many; else how much the machine has.
-#[derive(Drop)]
+#[derive(Clone, Copy)]
 pub enum Left {
     TooMany,
     Frames(Counts),

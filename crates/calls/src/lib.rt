@@ -18,14 +18,14 @@ use cells::Cell;
 use plan::{Error, Found, Params, Plan, Start};
 
 // Why an effect is performed: by a script or the host, or by a throw.
-#[derive(Drop)]
+#[derive(Clone, Copy)]
 pub enum Cause {
     Performed,
     Thrown(Error),
 }
 
 // The frame that a call begins, or that it begins none.
-#[derive(Drop)]
+#[derive(Clone, Copy)]
 pub enum Beginning {
     Frame(Start, Params),
     NoFrame,

@@ -7,7 +7,7 @@
 
 #![tactic(auto)]
 
-#[derive(Drop)]
+#[derive(Clone, Copy)]
 struct Answer {
     code: u32,
     ticks: u32,

@@ -7,7 +7,7 @@ ghost use Rattle.cells.specs.Le.{le_at, put_at};
 ghost use Rattle.cells.specs.Cells.{null, room, cells, Sound, Writes, set_number, set_payload};
 
 // A tag of 4 bytes, a number of 4 and a payload of 8, in this order.
-#[derive(Drop)]
+#[derive(Clone, Copy)]
 pub struct Cell {
     pub tag: u32,
     pub number: u32,

@@ -8,7 +8,7 @@ ghost use Rattle.std.proofs.Common.{to_z, of_z};
 ghost use Rattle.fuel.specs.Fuels.{saturate, saturating_add, saturating_neg, min, with, empty, refill, adjust, consume, remaining, set_remaining, interrupt, is_interrupted, clear_interrupt, should_continue};
 ghost use Rattle.fuel.specs.Loans.{read, write};
 
-#[derive(Drop)]
+#[derive(Clone, Copy)]
 pub struct Fuel {
     fuel: i32,
     interrupted: bool,
@@ -153,7 +153,7 @@ pub fn charged(f: Fuel, cost: i32) -> Fuel
 }
 
 // What a loan of bytes holds, or the number of the refusal.
-#[derive(Drop)]
+#[derive(Clone, Copy)]
 pub enum Loan {
     Held(Fuel),
     Refused(u32),

@@ -11,7 +11,7 @@ use plan::Counts;
 use slices::{End, Slice};
 
 // Where a run stands: 0 to go on, or its answer; fuel, ticks and slice that are left; what the machine has.
-#[derive(Drop)]
+#[derive(Clone, Copy)]
 pub struct Group {
     pub code: u32,
     pub fuel: Fuel,

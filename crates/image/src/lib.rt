@@ -4,26 +4,26 @@
 ghost use Rattle.std.specs.Prelude.{◌≡◌};
 ghost use Rattle.image.specs.Program.{operand_kind};
 
-#[derive(Drop)]
+#[derive(Clone, Copy)]
 pub struct Op {
     pub number: u16,
     pub operand: u32,
 }
 
-#[derive(Drop)]
+#[derive(Clone, Copy)]
 pub struct Capture {
     pub from: u16,
     pub index: u16,
 }
 
-#[derive(Drop)]
+#[derive(Clone, Copy)]
 pub struct Constant {
     pub kind: u16,
     pub place: usize,
     pub size: usize,
 }
 
-#[derive(Drop)]
+#[derive(Clone, Copy)]
 pub enum OperandKind {
     Unused,
     Count,

@@ -5,7 +5,7 @@ ghost use Rattle.std.specs.Prelude.{◌≡◌, ◌*◌, ◌<◌};
 ghost use Rattle.ints.specs.Ints.{half, quotient, is_negative, unsigned_abs, with_sign, neg, add, sub, mul, div, rem, lt, le, gt, ge};
 
 // What a division or a remainder gives.
-#[derive(Drop)]
+#[derive(Clone, Copy)]
 pub enum Division {
     Of(u64),
     ZeroDivisor,

@@ -5,7 +5,7 @@
 
 #![tactic(auto)]
 
-#[derive(Drop)]
+#[derive(Clone, Copy)]
 struct Answer {
     kind: u8,
     number: u64,

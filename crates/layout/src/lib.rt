@@ -12,7 +12,7 @@ ghost use Rattle.layout.specs.Reads.{Finishable, Finished, Open, Reads, Laid};
 ghost use Rattle.layout.specs.Tables.{Front, Lies, Pushed, Listed, Room, Ready, Begins};
 
 // Where the records of a code lie in its body, and where the codes in it begin. The opcodes always lie at 8.
-#[derive(Drop)]
+#[derive(Clone, Copy)]
 struct Parts {
     globals: usize,
     captures: usize,
@@ -21,14 +21,14 @@ struct Parts {
 }
 
 // How many constants there are now, or that a record is not as it must be.
-#[derive(Drop)]
+#[derive(Clone, Copy)]
 enum Used {
     Broken,
     To(usize),
 }
 
 // A refusal with its number, or how many codes, constants and inner numbers the tables hold.
-#[derive(Drop)]
+#[derive(Clone, Copy)]
 pub enum Read {
     Refused(u32),
     Accepted(usize, usize, usize),

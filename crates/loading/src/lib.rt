@@ -13,7 +13,7 @@ use cells::Cell;
 use layout::Read;
 
 // An image: its refusal, or how many captures the outermost code has.
-#[derive(Drop)]
+#[derive(Clone, Copy)]
 pub enum Outermost {
     NotRead(u32),
     Captures(usize),

@@ -13,7 +13,7 @@ use moves::Running;
 use plan::Next;
 
 // How an opcode ends that makes an object: it goes on, with so many cells of the store used; or it is refused.
-#[derive(Drop)]
+#[derive(Clone, Copy)]
 pub enum Made {
     On(Running, usize),
     Refused(u32),

@@ -11,7 +11,7 @@ ghost use Rattle.moves.specs.Frames.{kept_in};
 use cells::Cell;
 
 // The frame that runs: where it begins, its counts and its place. Its head need not show the last three until it is settled.
-#[derive(Drop)]
+#[derive(Clone, Copy)]
 pub struct Running {
     pub base: usize,
     pub locals: usize,

@@ -5,14 +5,14 @@ use cells::Cell;
 use moves::Running;
 
 // The parameters of a code or an effect: their count, and whether more arguments go into a list.
-#[derive(Drop)]
+#[derive(Clone, Copy)]
 pub struct Params {
     pub count: u16,
     pub variadic: bool,
 }
 
 // An error as a result shows it: kind 3 to 10, a cell, a second type.
-#[derive(Drop)]
+#[derive(Clone, Copy)]
 pub struct Error {
     pub kind: u32,
     pub value: Cell,
@@ -20,14 +20,14 @@ pub struct Error {
 }
 
 // What an operator gives.
-#[derive(Drop)]
+#[derive(Clone, Copy)]
 pub enum Computed {
     Computes(Cell),
     Fails(Error),
 }
 
 // How an opcode ends that stays in its frame: it goes on or jumps, with the frame in registers; its own error is thrown; or it is refused.
-#[derive(Drop)]
+#[derive(Clone, Copy)]
 pub enum Next {
     Goes(Running),
     Jumps(Running),
@@ -36,7 +36,7 @@ pub enum Next {
 }
 
 // How much a machine has: frames, cells of the live stack, cells of the store.
-#[derive(Drop)]
+#[derive(Clone, Copy)]
 pub struct Counts {
     pub frames: usize,
     pub live: usize,
@@ -44,7 +44,7 @@ pub struct Counts {
 }
 
 // The head of a new frame.
-#[derive(Drop)]
+#[derive(Clone, Copy)]
 pub struct Start {
     pub kind: u32,
     pub subject: Cell,
@@ -52,7 +52,7 @@ pub struct Start {
 }
 
 // What a call, a perform, a throw or a return comes to. A frame is named by its place from the bottom, a handler by its place in the frame.
-#[derive(Drop)]
+#[derive(Clone, Copy)]
 pub enum Plan {
     Starts(Start, Params),
     Resumes(usize, Cell),
@@ -66,7 +66,7 @@ pub enum Plan {
 }
 
 // The frame that handles an effect, by its place from the bottom, and its handler's place in it.
-#[derive(Drop)]
+#[derive(Clone, Copy)]
 pub enum Found {
     In(usize, usize),
     Nowhere,

@@ -12,7 +12,7 @@ use image::{Capture, Constant, Op, OperandKind};
 use layout::Read;
 
 // How many there are of each in a code.
-#[derive(Drop)]
+#[derive(Clone, Copy)]
 pub struct Counts {
     pub params: usize,
     pub variadic: usize,

@@ -12,7 +12,7 @@ use asks::{Entry, Got, Named, Part};
 use cells::Cell;
 
 // A line of the page of messages: where it starts, and its length.
-#[derive(Drop)]
+#[derive(Clone, Copy)]
 pub enum Found {
     At(usize, usize),
     Missing,

@@ -16,7 +16,7 @@ use cells::Cell;
 use plan::{Error, Plan};
 
 // `CallbackReturn`, or an error with a value.
-#[derive(Drop)]
+#[derive(Clone, Copy)]
 pub enum CallbackReturn {
     Call(Cell),
     Perform(Cell),
@@ -28,7 +28,7 @@ pub enum CallbackReturn {
 }
 
 // What is sent as an answer.
-#[derive(Drop)]
+#[derive(Clone, Copy)]
 pub enum Reply {
     Malformed,
     Returns(CallbackReturn),

@@ -11,7 +11,7 @@ use cells::Cell;
 use plan::{Counts, Plan};
 
 // How a plan ends: with its refusal, or 0 and the cells of the live stack that are used then.
-#[derive(Drop)]
+#[derive(Clone, Copy)]
 pub struct Finished {
     pub refusal: u32,
     pub live: usize,

@@ -15,7 +15,7 @@ use plan::Counts;
 
 // The answer of a run, and the ticks that it took.
 #[repr(C)]
-#[derive(Drop)]
+#[derive(Clone, Copy)]
 pub struct Ran {
     pub code: u32,
     pub ticks: u32,

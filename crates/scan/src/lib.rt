@@ -16,14 +16,14 @@ ghost use Rattle.scan.specs.Values.{is_plain};
 use cells::Cell;
 
 // Where what was tested ends.
-#[derive(Drop)]
+#[derive(Clone, Copy)]
 pub enum Scan {
     At(usize),
     Bad,
 }
 
 // Below which number the targets of a frame's handlers lie; 0 for a callback frame.
-#[derive(Drop)]
+#[derive(Clone, Copy)]
 pub enum Limit {
     Below(usize),
     Misfit,

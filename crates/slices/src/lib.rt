@@ -10,7 +10,7 @@ use plan::Error;
 use steps::{After, Closing, Quick};
 
 // How a slice ends: no tick is left; all of it is spent; its next opcode is refused, throws its own error over the frame left, or closes it.
-#[derive(Drop)]
+#[derive(Clone, Copy)]
 pub enum End {
     Paused,
     Spent,
@@ -20,7 +20,7 @@ pub enum End {
 }
 
 // The frame in registers, at its next opcode; the cells of the store used; what is left of the slice and of the ticks.
-#[derive(Drop)]
+#[derive(Clone, Copy)]
 pub struct Slice {
     pub end: End,
     pub g: Running,

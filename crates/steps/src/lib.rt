@@ -16,7 +16,7 @@ use moves::Running;
 use plan::{Error, Next};
 
 // Opcodes that change nothing but the stack and the locals of their frame.
-#[derive(Drop)]
+#[derive(Clone, Copy)]
 pub enum Stack {
     Pop,
     Copy,
@@ -27,7 +27,7 @@ pub enum Stack {
     StoreLocal,
 }
 
-#[derive(Drop)]
+#[derive(Clone, Copy)]
 pub enum Operator {
     Unary,
     Binary,
@@ -35,7 +35,7 @@ pub enum Operator {
 }
 
 // Jumps, handlers, and what does nothing.
-#[derive(Drop)]
+#[derive(Clone, Copy)]
 pub enum Jump {
     Plain,
     PopIfNull,
@@ -47,7 +47,7 @@ pub enum Jump {
 }
 
 // Opcodes that may change more than their frame.
-#[derive(Drop)]
+#[derive(Clone, Copy)]
 pub enum Making {
     LoadConst,
     StoreGlobal,
@@ -55,14 +55,14 @@ pub enum Making {
 }
 
 // Opcodes that close a slice.
-#[derive(Drop)]
+#[derive(Clone, Copy)]
 pub enum Closing {
     Call,
     Return,
     ReturnCall,
 }
 
-#[derive(Drop)]
+#[derive(Clone, Copy)]
 pub enum Family {
     OnStack(Stack),
     Computes(Operator),
@@ -73,7 +73,7 @@ pub enum Family {
 }
 
 // How an opcode ends: it goes on, with so many cells of the store used; it jumps; its own error is thrown; it is refused; or it closes the slice.
-#[derive(Drop)]
+#[derive(Clone, Copy)]
 pub enum After {
     On(Running, usize),
     Jumped(Running),
@@ -83,7 +83,7 @@ pub enum After {
 }
 
 // How an opcode ends that is done at once: `Other` has written nothing.
-#[derive(Drop)]
+#[derive(Clone, Copy)]
 pub enum Quick {
     Goes(Running),
     Jumps(Running),

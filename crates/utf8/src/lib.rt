@@ -7,7 +7,7 @@ ghost use Rattle.utf8.specs.Ascii.{ascii, Passed};
 
 // What the first octet of a character decides: how many octets the character has, 0 where none
 // starts so, and the bounds of the second octet, where there is one.
-#[derive(Drop)]
+#[derive(Clone, Copy)]
 pub struct Lead {
     pub width: usize,
     pub low: u8,
