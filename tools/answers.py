@@ -87,7 +87,7 @@ def turn_paths(text, fields):
     args = set(re.findall(r"let ([^\s(){}.;,]+) = [^\s]*\.args in", text))
     return re.sub(
         r"(?<![^\s(){};,])([^\s(){}.;,@\"«»]+)\.([^\s(){}.;,@\"«»]+)",
-        lambda m: m[1] + "." + (m[2] if m[1] in args or m[1] in ("goal", "tie") else fields.get(m[2], m[2])), text)
+        lambda m: m[1] + "." + (m[2] if m[1] in args or m[1] in ("goal", "tie") else fields.get(m[2], fields.get(m[2].replace("-", "_"), m[2]))), text)
 
 
 def search_alone(body):
@@ -96,14 +96,22 @@ def search_alone(body):
 
 def loop_params(spec, head, kind):
     """The map from parameters to paths of l."""
-    (_, _), names = spec["loops"][kind]
-    changed = spec["changed"][kind]
-    paths = []
-    for n, ch in zip(names, changed):
-        if ch:
-            paths.append("l.initial." + n)
-        paths.append("l." + n)
-    return dict(zip(head, paths))
+    _, names = spec["loops"][kind]
+    changed = [n for n, ch in zip(names, spec["changed"][kind]) if ch]
+    still = [n for n, ch in zip(names, spec["changed"][kind]) if not ch]
+    before = [h for h in head if h.endswith("₀")]
+    after = [h for h in head if not h.endswith("₀")]
+    paths = {}
+    for h, n in zip(before, changed):
+        paths[h] = "l.initial." + n
+    left = [n for n in still + changed]
+    for h in after:
+        n = h.replace("-", "_")
+        if n not in left:
+            n = left[0]
+        left.remove(n)
+        paths[h] = "l." + n
+    return paths
 
 
 def convert(crate, path, spec):
@@ -112,7 +120,7 @@ def convert(crate, path, spec):
     f = os.path.relpath(folder, f"crates/{crate}/proofs").replace("/", ".")
     fields = {}
     for _, _, (old, new), *_ in spec["places"]:
-        if old and old != new:
+        if old:
             fields[old] = new
     for (old, new), _ in spec["loops"]:
         if old != new:

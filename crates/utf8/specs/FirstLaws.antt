@@ -91,17 +91,17 @@ char_low b [] g x s h = refl
 char_low b (r ∷ rs) g x s h =
     let f : Fine b r = g.0 in
     ap (either r (char rs x s) s) (within_low r.first x (omega arith))
-    ∙ char_low _ rs g.1 x s (omega arith)
+    ∙ char_low (r.first.to + 1) rs g.1 x s (omega arith)
 
 char_in : (b : ℕ) (rs : List Row) → Good b rs → (x : ℕ) (s : List ℕ) → char rs x s ≡ followed (lead_in rs x) s
 unfolding char lead_in follow Good
 char_in b [] g x s = refl
-char_in b (r ∷ rs) g x s = by (char_in _ rs g.1 x s) (within r.first x) refl
+char_in b (r ∷ rs) g x s = by (char_in (r.first.to + 1) rs g.1 x s) (within r.first x) refl
   where
     by : char rs x s ≡ followed (lead_in rs x) s → (p : Bool) → within r.first x ≡ p → either r (char rs x s) s (within r.first x) ≡ followed (cond (within r.first x) (lead_to r.rest) (lead_in rs x)) s
     by e true w =
         ap (either r (char rs x s) s) w
-        ∙ ap (λ (n : ℕ). cond (starts r.rest s) (1 + length r.rest) n) (char_low _ rs g.1 x s (omega (arith, leb-true x r.first.to (both_left (leb x r.first.to) (leb r.first.from x) w))))
+        ∙ ap (λ (n : ℕ). cond (starts r.rest s) (1 + length r.rest) n) (char_low (r.first.to + 1) rs g.1 x s (omega (arith, leb-true x r.first.to (both_left (leb x r.first.to) (leb r.first.from x) w))))
         ∙ sym (g.0.same s)
         ∙ ap (λ (q : Bool). followed (cond q (lead_to r.rest) (lead_in rs x)) s) (sym w)
     by e false w = ap (either r (char rs x s) s) w ∙ e ∙ ap (λ (q : Bool). followed (cond q (lead_to r.rest) (lead_in rs x)) s) (sym w)
@@ -113,7 +113,7 @@ char_lead = char_in 0 rows good
 width_in : (b : ℕ) (rs : List Row) → Good b rs → (x : ℕ) → (lead_in rs x).width ≤ 4
 unfolding lead_in Good
 width_in b [] g x = omega arith
-width_in b (r ∷ rs) g x = by (width_in _ rs g.1 x) (within r.first x)
+width_in b (r ∷ rs) g x = by (width_in (r.first.to + 1) rs g.1 x) (within r.first x)
   where
     by : (lead_in rs x).width ≤ 4 → (p : Bool) → (cond p (lead_to r.rest) (lead_in rs x)).width ≤ 4
     by h true = g.0.few

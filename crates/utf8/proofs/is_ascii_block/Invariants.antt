@@ -5,7 +5,7 @@ use Rattle.utf8.specs.Laws.{Joined, joined_none, joined_more, joined_all}
 use Rattle.utf8.proofs.is_ascii_block.Given as goal
 
 abbrev pub invariant-loop-k : goal.invariant-loop-k
-invariant-loop-k l = Joined l.s l.i 32 l.initial.k l.k
+invariant-loop-k l = Joined l.s l.i 32 l.joint l.k
 
 abbrev pub decreases-loop-k : goal.decreases-loop-k
 decreases-loop-k l = 32 - l.k
