@@ -25,7 +25,7 @@ pub returns-then-n-eq0 : goal.returns-then-n-eq0
 returns-then-n-eq0 c = search pass_none_starts
 
 pub overflow_add-i-then-is_followed : goal.overflow_add-i-then-is_followed
-overflow_add-i-then-is_followed c = omega (arith, char_inside c.loop-i.invariant c.loop-i-test.true c.lead_of-d.ensures c.is-followed.ensures c.if-is_followed.true)
+overflow_add-i-then-is_followed c = omega (arith, char_inside c.loop-i.invariant c.loop-i-test.true c.lead_of-d.ensures c.is_followed.ensures c.if-is_followed.true)
 
 pub loop-i-smaller : goal.loop-i-smaller
 loop-i-smaller c = omega arith
