@@ -118,13 +118,17 @@ def convert(crate, path, spec):
     text = open(path, encoding="utf-8").read()
     folder = os.path.dirname(path)
     f = os.path.relpath(folder, f"crates/{crate}/proofs").replace("/", ".")
-    fields = {}
-    for _, _, (old, new), *_ in spec["places"]:
+    every, by_place = {}, {}
+    for place, parent, (old, new), *_ in spec["places"]:
         if old:
-            fields[old] = new
+            every[old] = new
+        # the same old name may have another new one in another arm: what counts is the way from a goal's place up
+        by_place[place] = {**by_place.get(parent, {}), **({old: new} if old else {})}
     for (old, new), _ in spec["loops"]:
-        if old != new:
-            fields[old] = new
+        every[old] = new
+
+    def fields_at(place):
+        return {**every, **by_place.get(place, {})}
     items = group(blocks(text))
     comment, uses, own, needs, loops = [], [], [], {}, {}
     final = None
@@ -153,7 +157,12 @@ def convert(crate, path, spec):
     if len(args) != len(want):
         return f"{len(args)} arguments, {len(want)} needs: {want}"
     answers = []
-    for a, (old, new) in zip(args, want):
+
+    def fine(t, fields):
+        return turn_paths(unbefore(t), fields)
+
+    for a, (old, new), (place, _) in zip(args, want, spec["asked_at"]):
+        fields = fields_at(place)
         if a in needs:
             body = needs[a]
             lines = body.split("\n")
@@ -176,14 +185,14 @@ def convert(crate, path, spec):
             if search_alone(val) and not unf:
                 continue
             out = head + [f"pub {new} : goal.{new}"] + unf + [val_line]
-            answers.append("\n".join(out))
+            answers.append(fine("\n".join(out), fields))
         else:
             mm = re.fullmatch(r"\(λ ([^.]*)\. (.*)\)", a, re.S)
             if mm:
                 val = mm[2].strip()
                 if search_alone(val):
                     continue
-                answers.append(f"pub {new} : goal.{new}\n{new} c = {val}")
+                answers.append(fine(f"pub {new} : goal.{new}\n{new} c = {val}", fields))
             else:
                 answers.append(f"pub {new} : goal.{new}\n{new} c = {a} c")
     # where a need or a loop's name stands in another text
@@ -191,9 +200,6 @@ def convert(crate, path, spec):
     for a, (old, new) in zip(args, want):
         if a in needs and a != new:
             renames[a] = new
-
-    def fine(t):
-        return turn_paths(unbefore(t), fields)
 
     inv = []
     for name, body in loops.items():
@@ -220,7 +226,7 @@ def convert(crate, path, spec):
         out = "\n".join(comment + keep + [f"use {mod}.Given as goal", ""]) + "\n" + "\n\n".join(inv) + "\n"
         open(folder + "/Invariants.antt", "w", encoding="utf-8").write(out)
     if answers or own:
-        body = "\n\n".join(own + [fine(a) for a in answers])
+        body = "\n\n".join(own + answers)
         for a, n in renames.items():
             pass
         if "Lts." in body:

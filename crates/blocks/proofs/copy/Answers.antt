@@ -1,0 +1,16 @@
+-- `blocks::copy` meets its contract: the loop keeps `Copied`. Assumes nothing.
+use Prim.Native.Nat.{◌≤◌, ◌-◌}
+use lib.ListN.{drop}
+use Rattle.cells.specs.Cells.{cells}
+use Rattle.blocks.proofs.Copied.{Copied, copied_none, copied_from, copied_all}
+use borrow.Author.Rules.{rules}
+use Rattle.blocks.proofs.copy.Goals as goal
+
+pub loop-copied-init : goal.loop-copied-init
+loop-copied-init c = (copied_none _ _ _, search rules)
+
+pub loop-copied-preserved : goal.loop-copied-preserved
+loop-copied-preserved c = (copied_from _ _ _ (search rules) (search rules) c.get-c.ensures.0 c.loop-copied.invariant.0 c.put.ensures, search rules)
+
+pub returns : goal.returns
+returns c = copied_all c.args.n (search rules) c.loop-copied.invariant.0
