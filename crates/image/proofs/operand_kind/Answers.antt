@@ -32,16 +32,16 @@ returns-in-40-to-49 c = kind_jumps _ (search rules) (search rules)
 
 -- the numbers between the single ones
 pub returns-in_default : goal.returns-in_default
-returns-in_default c = let r = c.in_default-1.rest in
+returns-in_default c = let r = c.in_default.in_default-own.rest in
     let three = above 3 _ (search rules) (λ e. r.0.0.0.0.1 (inl e)) in
     let five = above 5 _ (above 4 _ three (λ e. r.0.0.0.1 (inl e))) r.0.0.1 in
     let eight = above 8 _ (above 7 _ (above 6 _ five r.0.1) (λ e. r.0.0.0.0.1 (inr e))) (λ e. r.0.0.0.1 (inr e)) in
-    kind_low _ eight c.if-number-lt17.true (λ e. r.0.0.0.0.0.1 (inl e))
+    kind_low _ eight c.in_default.if-number-lt17-own.true (λ e. r.0.0.0.0.0.1 (inl e))
 
 pub returns-in_default-2 : goal.returns-in_default-2
-returns-in_default-2 c = let r = c.in_default-1.rest in
+returns-in_default-2 c = let r = c.in_default.in_default-own.rest in
     let counts = r.0.0.0.0.0.1 in
-    kind_high _ (above 30 _ (search rules) r.1) c.if-number-lt40.true (λ e. counts (inr (inl e))) (λ e. r.0.0.0.0.0.0.1 (inr e)) (λ e. counts (inr (inr e)))
+    kind_high _ (above 30 _ (search rules) r.1) c.in_default.if-number-lt40-own.true (λ e. counts (inr (inl e))) (λ e. r.0.0.0.0.0.0.1 (inr e)) (λ e. counts (inr (inr e)))
 
 pub returns-in_default-3 : goal.returns-in_default-3
 returns-in_default-3 c = kind_past _ (search rules)
@@ -51,14 +51,14 @@ unfolding operand_kind
 returns-in-1 c = ⊎_elim (λ e. ap operand_kind (sym e)) (⊎_elim (λ e. ap operand_kind (sym e)) (λ e. ap operand_kind (sym e))) c.in-1.is
 
 pub returns-in-1-2 : goal.returns-in-1-2
-returns-in-1-2 c = kind_pairs _ (above 0 _ (search rules) (λ e. c.in_default-1.rest.0.0.0.0.0.0.1 (inl e))) c.if-number-lt3.true
+returns-in-1-2 c = kind_pairs _ (above 0 _ (search rules) (λ e. c.in-1.in_default-own.rest.0.0.0.0.0.0.1 (inl e))) c.in-1.if-number-lt3-own.true
 
 pub returns-in-1-3 : goal.returns-in-1-3
 returns-in-1-3 c = kind_marks _ (search rules) (search rules)
 
 pub returns-in-0 : goal.returns-in-0
 unfolding operand_kind
-returns-in-0 c = ⊎_elim (λ e. ap operand_kind (sym e)) (λ e. ap operand_kind (sym e)) c.in-0.is
+returns-in-0 c = ⊎_elim (λ e. ap operand_kind (sym e)) (λ e. ap operand_kind (sym e)) c.in-0.in-0-own.keys1
 
 pub returns-in-0-2 : goal.returns-in-0-2
 returns-in-0-2 c = kind_operators _ (search rules) (search rules)
