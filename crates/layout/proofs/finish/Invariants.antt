@@ -1,0 +1,13 @@
+-- `layout::finish` meets its contract. The loop carries `Copying`. Assumes nothing.
+use native.Mathlib.Omega.{arith}
+use Prim.Native.Nat.{◌-◌}
+use lib.ListN.{length-set}
+use Rattle.layout.specs.Reads.{Copying, copying_first, copying_next, copying_ends}
+use borrow.Author.Rules.{rules}
+use Rattle.layout.proofs.finish.Given as goal
+
+abbrev pub invariant-loop-i : goal.invariant-loop-i
+invariant-loop-i l = Copying l.kept l.count l.numbers l.initial.inner l.i l.inner
+
+abbrev pub decreases-loop-i : goal.decreases-loop-i
+decreases-loop-i l = l.count - l.i
