@@ -77,17 +77,42 @@ def unbefore(text):
         text = new
 
 
-def turn_paths(text, fields):
-    """Names of steps behind `c`, and behind a name that stands for it."""
+def step_path(names, every, rows):
+    """The path of a step's fact by today's names; names are the fields behind `c`."""
+    first = names[0]
+    for old in (first, first.replace("-", "_")):
+        best = None
+        for (field, path), new in rows.items():
+            if field == old and list(path) == names[1:1 + len(path)] and (best is None or len(path) > len(best[0])):
+                best = (path, new)
+        if best:
+            return best[1] + names[1 + len(best[0]):]
+        if old in every:
+            return [every[old]] + names[1:]
+    return names
+
+
+def turn_paths(text, every, rows):
+    """Paths behind `c`, and behind a name that stands for it."""
     while True:
         m = re.search(r"let ([^\s(){}.;,]+) = c in\s*", text)
         if not m:
             break
         text = text[:m.start()] + re.sub(rf"(?<![^\s(){{}};,]){re.escape(m[1])}(?![^\s(){{}}.;,])", "c", text[m.end():])
-    args = set(re.findall(r"let ([^\s(){}.;,]+) = [^\s]*\.args in", text))
-    return re.sub(
-        r"(?<![^\s(){};,])([^\s(){}.;,@\"«»]+)\.([^\s(){}.;,@\"«»]+)",
-        lambda m: m[1] + "." + (m[2] if m[1] in args or m[1] in ("goal", "tie") else fields.get(m[2], fields.get(m[2].replace("-", "_"), m[2]))), text)
+    args = set(re.findall(r"let ([^\s(){}.;,]+) = [^\s]*\.args in", text)) | {"goal", "tie"}
+
+    def turn(m):
+        head, names = m[1], m[2][1:].split(".")
+        if head in args or not names[0]:
+            return m[0]
+        new = step_path(names, every, rows)
+        path = head + "." + ".".join(new)
+        # the branch of `!x` tells of x now
+        if new and new[0].startswith("if-not-") and new[-1] in ("true", "false"):
+            return f"(ap not {path})"
+        return path
+
+    return re.sub(r"(?<![^\s(){};,])([^\s(){}.;,@\"«»]+)((?:\.[^\s(){}.;,@\"«»]+)+)", turn, text)
 
 
 def search_alone(body):
@@ -118,17 +143,22 @@ def convert(crate, path, spec):
     text = open(path, encoding="utf-8").read()
     folder = os.path.dirname(path)
     f = os.path.relpath(folder, f"crates/{crate}/proofs").replace("/", ".")
-    every, by_place = {}, {}
-    for place, parent, (old, new), *_ in spec["places"]:
+    every, by_place, rows_at = {}, {}, {}
+    for (place, parent, (old, new), *_), arm in zip(spec["places"], spec["arms"]):
         if old:
             every[old] = new
         # the same old name may have another new one in another arm: what counts is the way from a goal's place up
         by_place[place] = {**by_place.get(parent, {}), **({old: new} if old else {})}
+        rows_at[place] = dict(rows_at.get(parent, {}))
+        if arm:
+            view, _, rows = arm
+            for new_field, old_field, behind in rows:
+                rows_at[place][old_field, tuple(behind)] = [view, new_field]
     for (old, new), _ in spec["loops"]:
         every[old] = new
 
     def fields_at(place):
-        return {**every, **by_place.get(place, {})}
+        return {**every, **by_place.get(place, {})}, rows_at.get(place, {})
     items = group(blocks(text))
     comment, uses, own, needs, loops = [], [], [], {}, {}
     final = None
@@ -138,9 +168,9 @@ def convert(crate, path, spec):
         if first.startswith("use "):
             comment += [l for l in lines if l.startswith("--")]
             uses.append(first)
-        elif "tie.close" in body:
+        elif "tie.close" in body or re.search(r"-lts\.spec\b", body):
             final = body
-        elif re.search(r": tie\.(invariant|decreases)", body):
+        elif re.search(r": (tie|\S+-lts)\.(invariant|decreases)", body):
             loops[name] = body
         elif re.search(r": tie\.Need", body):
             needs[name] = body
@@ -148,7 +178,7 @@ def convert(crate, path, spec):
             own.append(body)
     if final is None:
         return "no tie.close"
-    m = re.search(r"tie\.spec\b(.*)\)\s*$", final, re.S)
+    m = re.search(r"tie\.spec\b(.*)\)\s*$", final, re.S) or re.search(r"-lts\.spec \([^()]*\)\s*\([^()]*\)\s*\S+\.Post(.*)$", final, re.S)
     if not m:
         return "no tie.spec: " + final[:80]
     args = parts(m[1])
@@ -159,7 +189,7 @@ def convert(crate, path, spec):
     answers = []
 
     def fine(t, fields):
-        return turn_paths(unbefore(t), fields)
+        return turn_paths(unbefore(t), *fields)
 
     for a, (old, new), (place, _) in zip(args, want, spec["asked_at"]):
         fields = fields_at(place)
@@ -231,6 +261,9 @@ def convert(crate, path, spec):
             pass
         if "Lts." in body:
             pass
+        lacks = [w for w in ("ap", "not") if "(ap not " in body and not any(re.search(rf"[{{ ]{w}[,}}]", u) for u in keep)]
+        if lacks:
+            keep.append("use Rattle.std.proofs.Common.{" + ", ".join(lacks) + "}")
         out = "\n".join(comment + keep + [f"use {mod}.Goals as goal", ""]) + "\n" + body + "\n"
         open(folder + "/Answers.antt", "w", encoding="utf-8").write(out)
     os.remove(path)
@@ -242,7 +275,7 @@ def main():
         names = names_of(crate)
         for path in sorted(glob.glob(f"crates/{crate}/proofs/**/Proof.antt", recursive=True)):
             f = os.path.relpath(os.path.dirname(path), f"crates/{crate}/proofs").replace("/", ".")
-            key = f"Rattle-{crate}-proofs.{f}.Lts"
+            key = f"Rattle-{crate}-proofs.{f}.Lts" + ("-" + f[1:] if f.startswith("+") else "")
             if key not in names:
                 print(f"{crate}: {f}: no names ({[k for k in names if f in k][:3]})")
                 continue

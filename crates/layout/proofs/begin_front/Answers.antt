@@ -61,16 +61,16 @@ pub overflow_cast-used : goal.overflow_cast-used
 overflow_cast-used c = omega arith
 
 pub overflow_sub-to : goal.overflow_sub-to
-overflow_sub-to c = listed_least c.read_constants.ensures c.to-1.given.1
+overflow_sub-to c = listed_least c.read_constants.ensures c.in-To.is
 
 pub overflow_cast-to : goal.overflow_cast-to
-overflow_cast-to c = omega (arith, listed_fits c.read_constants.ensures c.to-1.given.1)
+overflow_cast-to c = omega (arith, listed_fits c.read_constants.ensures c.in-To.is)
 
 pub push_row-requires : goal.push_row-requires
 push_row-requires c = omega arith
 
 pub returns-in-Broken : goal.returns-in-Broken
-returns-in-Broken c = begin_broken _ _ _ _ _ _ c.requires.1 c.parts_of-p.ensures c.read_constants.ensures c.enum_told-1.given.1
+returns-in-Broken c = begin_broken _ _ _ _ _ _ c.requires.1 c.parts_of-p.ensures c.read_constants.ensures c.in-Broken.is
 
 pub returns-in-To : goal.returns-in-To
-returns-in-To c = begin_ends _ _ _ _ _ _ c.requires.1 c.parts_of-p.ensures c.read_constants.ensures c.to-1.given.1 c.push_row.ensures
+returns-in-To c = begin_ends _ _ _ _ _ _ c.requires.1 c.parts_of-p.ensures c.read_constants.ensures c.in-To.is c.push_row.ensures

@@ -17,4 +17,4 @@ pub returns-in-0-to-2 : goal.returns-in-0-to-2
 returns-in-0-to-2 c = search effect_builtin
 
 pub returns-in_default : goal.returns-in_default
-returns-in_default c = effect_other _ _ (search rules) c.read16.ensures (search rules) c.in_default-1.rest.1
+returns-in_default c = effect_other _ _ (search rules) c.read16.ensures (search rules) c.in_default.in_default-own.rest.1

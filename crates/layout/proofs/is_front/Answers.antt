@@ -2,6 +2,7 @@
 use native.Mathlib.Omega.{arith}
 use Rattle.layout.specs.RecordsLaws.{listed_of}
 use Rattle.layout.specs.Tables.{front_none, front_opcodes, front_globals, front_captures, front_ends}
+use Rattle.std.proofs.Common.{ap, not}
 use Rattle.layout.proofs.is_front.Goals as goal
 
 pub returns-then-part-lt8 : goal.returns-then-part-lt8
@@ -29,10 +30,10 @@ pub is_listed-requires-3 : goal.is_listed-requires-3
 is_listed-requires-3 c = omega arith
 
 pub returns-then-not-is_listed-3 : goal.returns-then-not-is_listed-3
-returns-then-not-is_listed-3 c = front_captures _ c.if-part-lt8.false c.is_listed.ensures c.if-not-is_listed.false c.after-globals.ensures c.is_listed-2.ensures c.if-not-is_listed-2.false c.after-captures.ensures c.is_listed-3.ensures c.if-not-is_listed-3.true
+returns-then-not-is_listed-3 c = front_captures _ c.if-part-lt8.false c.is_listed.ensures (ap not c.if-not-is_listed.false) c.after-globals.ensures c.is_listed-2.ensures (ap not c.if-not-is_listed-2.false) c.after-captures.ensures c.is_listed-3.ensures (ap not c.if-not-is_listed-3.true)
 
 pub after-requires : goal.after-requires
-after-requires c = listed_of _ _ _ _ c.is_listed-3.ensures c.if-not-is_listed-3.false
+after-requires c = listed_of _ _ _ _ c.is_listed-3.ensures (ap not c.if-not-is_listed-3.false)
 
 pub returns : goal.returns
-returns c = front_ends _ c.if-part-lt8.false c.is_listed.ensures c.if-not-is_listed.false c.after-globals.ensures c.is_listed-2.ensures c.if-not-is_listed-2.false c.after-captures.ensures c.is_listed-3.ensures c.if-not-is_listed-3.false c.after.ensures c.is_whole.ensures
+returns c = front_ends _ c.if-part-lt8.false c.is_listed.ensures (ap not c.if-not-is_listed.false) c.after-globals.ensures c.is_listed-2.ensures (ap not c.if-not-is_listed-2.false) c.after-captures.ensures c.is_listed-3.ensures (ap not c.if-not-is_listed-3.false) c.after.ensures c.is_whole.ensures

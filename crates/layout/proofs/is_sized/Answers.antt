@@ -32,5 +32,5 @@ pub returns-in_default : goal.returns-in_default
 returns-in_default c = search sized_low
 
 pub returns-in_default-2 : goal.returns-in_default-2
-returns-in_default-2 c = let r = c.in_default-1.rest in
+returns-in_default-2 c = let r = c.in_default.in_default-own.rest in
     sized_high _ _ _ c.kind.ensures (search rules) r.0.1 r.1

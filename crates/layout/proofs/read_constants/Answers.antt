@@ -4,6 +4,7 @@ use Prim.Native.Nat.{◌-◌}
 use lib.ListN.{length}
 use Rattle.layout.specs.ImageLaws.{constant_of}
 use Rattle.layout.specs.Tables.{Listing, listing_first, listing_ends, listing_broken, listing_next}
+use Rattle.std.proofs.Common.{ap, not}
 use Rattle.layout.proofs.read_constants.Goals as goal
 
 pub loop-at-init : goal.loop-at-init
@@ -13,7 +14,7 @@ pub returns-then-not-is_constant : goal.returns-then-not-is_constant
 returns-then-not-is_constant c = search listing_broken
 
 pub after-next-requires : goal.after-next-requires
-after-next-requires c = constant_of _ _ c.is_constant.ensures c.if-not-is_constant.false
+after-next-requires c = constant_of _ _ c.is_constant.ensures (ap not c.if-not-is_constant.false)
 
 pub overflow_add-base : goal.overflow_add-base
 overflow_add-base c = omega arith
