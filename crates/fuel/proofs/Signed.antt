@@ -137,7 +137,7 @@ module _ {p : ℕ} (f : Fits w32 p) (low : 2147483648 ≤ p) where
   less_fits = subst (SFits w64) (sym less) (sfits_widen tt small)
 
   less_is : in_bits w64 (to_z w64 p -ℤ pos 4294967296) ≡ number
-  less_is = known less (sfits_widen tt small)
+  less_is = known {w = w64} less (sfits_widen tt small)
 
   pub number_fits : SFits w32 (in_bits w64 (to_z w64 p -ℤ pos 4294967296))
   number_fits = subst (SFits w32) (sym less_is) small
