@@ -14,9 +14,9 @@ use Rattle.machine.specs.Values.{Program}
 use Rattle.machine.specs.Machine.{Frame, Object, continuation, Result, running, returned, failed, unhandled, M, with_result, with_store, frames_cost, result_cost, used, receive}
 use Rattle.machine.specs.Calls.{World}
 use Rattle.machine.specs.Form.{ObjectFits}
-use Rattle.machine.specs.FormRules.{object_at_lem}
+use Rattle.machine.proofs.FormRules.{object_at_lem}
 use Rattle.memory.specs.Layout.{flat, error_shown, result_shown}
-use Rattle.memory.specs.Lists.{length_flat}
+use Rattle.memory.proofs.Lists.{length_flat}
 use Rattle.moves.specs.Runs.{end_of, with_counts}
 use Rattle.moves.specs.Frames.{Live, Gets, kept_in, receive_fits}
 use Rattle.moves.specs.Objects.{Stored}

@@ -11,17 +11,18 @@ use Rattle.cells.specs.CellsLaws.{length_cells}
 use Rattle.cells.specs.declared.Cell.{Cell}
 use Rattle.machine.specs.Values.{cell, list_at}
 use Rattle.machine.specs.Machine.{Frame, lucia, host, effect_callback, Object, list, continuation, Result, M, frame_cost, frames_cost, cost, used, result_cost, here, object_at, parse, put_back}
-use Rattle.machine.specs.Store.{used_append}
+use Rattle.machine.proofs.Store.{used_append}
 use Rattle.memory.specs.Layout.{Written, written, flat, object_cells}
 use Rattle.memory.specs.View.{frames_size}
-use Rattle.memory.specs.Lists.{written_cost, length_flat, cost_written}
+use Rattle.memory.specs.Lists.{written_cost}
+use Rattle.memory.proofs.Lists.{length_flat, cost_written}
 use Rattle.moves.specs.Runs.{Top, Stands, Settles, opened_top, pushed_all}
 use Rattle.moves.specs.Frames.{Live, Starts, new_written, stands_live}
 use Rattle.moves.specs.Objects as objects
 use Rattle.moves.specs.Objects.{Stored, Kept, last_of, object_there}
 use Rattle.moves.specs.declared.Running.{Running}
 use Rattle.plan.specs.Rest.{Appends, counts_of}
-use Rattle.plan.specs.Appended.{appends_none, appends_same}
+use Rattle.plan.proofs.Appended.{appends_none, appends_same}
 use Rattle.plan.specs.Plans.{taken_count, listed_cells, Enough, Resumed}
 use Rattle.plan.specs.Parsed.{Lists, Pushes}
 use Rattle.plan.specs.declared.Counts.{Counts}

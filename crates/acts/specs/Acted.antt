@@ -9,7 +9,7 @@ use Rattle.machine.specs.Values.{Program}
 use Rattle.machine.specs.Machine.{Frame, M, with_frames, used}
 use Rattle.machine.specs.Opcodes.{Running, Action, throws, takes, next_action}
 use Rattle.machine.specs.Calls.{Sizes, does, stops, outcome, Pace, failing, pace_of}
-use Rattle.machine.specs.FormLaws.{MachineFits}
+use Rattle.machine.proofs.FormLaws.{MachineFits}
 use Rattle.memory.specs.Layout.{written, flat}
 use Rattle.moves.specs.Runs.{Top, end_of, opened}
 use Rattle.moves.specs.declared.Running as registers

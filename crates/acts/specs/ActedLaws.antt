@@ -15,7 +15,7 @@ use Rattle.moves.specs.Frames.{Live, stands_live}
 use Rattle.moves.specs.Objects.{Stored}
 use Rattle.moves.specs.declared.Running.{Running}
 use Rattle.plan.specs.Rest.{Same, Appends, counts_of, Begins, Held, Block, Rests}
-use Rattle.plan.specs.Appended.{appends_refl}
+use Rattle.plan.proofs.Appended.{appends_refl}
 use Rattle.plan.specs.Plans.{Carries}
 use Rattle.plan.specs.declared.Counts.{Counts}
 use Rattle.plan.specs.declared.Plan.{Plan}

@@ -7,7 +7,7 @@ use Rattle.std.proofs.Math.ListN.{length}
 use Rattle.cells.specs.declared.Cell.{Cell}
 use Rattle.machine.specs.Values.{Program, code_of, Params, code_params, effect_params, Error, thrown, shown}
 use Rattle.machine.specs.Machine.{Handler, Frame, lucia, Object, list, running, failed, M, with_frames, check_args, parse, Found, found, nowhere, search, capture, perform_by, throw_error, Function, is_closure, is_callback, is_effect_callback, is_continuation, is_none, put_back, resume, call_closure, call_function, receive}
-use Rattle.machine.specs.StepLaws.{if_cases}
+use Rattle.machine.proofs.StepLaws.{if_cases}
 use Rattle.plan.specs.Plans.{Received, Carries}
 use Rattle.plan.specs.declared.Plan.{Plan}
 use Rattle.plan.specs.declared.Plan.TheVariants.{Starts, Resumes, Handles, Catches, Unhandled, Fails, Receives, Returns, Stays}

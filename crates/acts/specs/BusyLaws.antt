@@ -12,8 +12,9 @@ use Rattle.machine.specs.Opcodes.{Action, doing, Taken, takes, opcode_action, ne
 use Rattle.machine.specs.Calls.{Sizes, top_handlers, handlers_left, does, stops, outcome, Pace, pace_of, is_value}
 use Rattle.machine.specs.Demand.{All}
 use Rattle.machine.specs.Form.{FrameFits}
-use Rattle.machine.specs.FormRules.{carries}
-use Rattle.machine.specs.ValueLaws.{Value, all_get, null_value}
+use Rattle.machine.proofs.FormRules.{carries}
+use Rattle.machine.specs.ValueLaws.{Value}
+use Rattle.machine.proofs.ValueLaws.{all_get, null_value}
 use Rattle.memory.specs.Layout.{written, flat}
 use Rattle.moves.specs.Runs.{Top, Runs, lucia_written, end_of, Settles, pop_top, place_top}
 use Rattle.moves.specs.Frames.{Live}

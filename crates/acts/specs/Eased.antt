@@ -13,7 +13,7 @@ use Rattle.machine.specs.Values.{Program}
 use Rattle.machine.specs.Machine.{Frame, lucia, host, effect_callback, continuation, Result, running, M, frame_cost, frames_cost, result_cost, give, put_back}
 use Rattle.machine.specs.Calls.{Sizes}
 use Rattle.memory.specs.Layout.{written, flat, object_cells, result_shown}
-use Rattle.memory.specs.Lists.{length_flat, cost_append}
+use Rattle.memory.proofs.Lists.{length_flat, cost_append}
 use Rattle.moves.specs.Runs.{Top, Settles, end_of, opened, opened_top, top_length}
 use Rattle.moves.specs.Frames.{Live, live_stands}
 use Rattle.moves.specs.Objects.{There, object_there}

@@ -8,7 +8,7 @@ use Rattle.machine.specs.Values.{Program}
 use Rattle.machine.specs.Machine.{Frame, Result, running, M, with_frames, frames_cost, used, result_cost}
 use Rattle.machine.specs.Form.{StoreFits}
 use Rattle.memory.specs.Layout.{Written, written, flat, result_shown}
-use Rattle.memory.specs.Lists.{cost_written, length_flat}
+use Rattle.memory.proofs.Lists.{cost_written, length_flat}
 use Rattle.moves.specs.Runs.{Top, loose, end_of, top_length}
 use Rattle.moves.specs.Frames.{Live, live_drop}
 use Rattle.moves.specs.Objects.{Stored}

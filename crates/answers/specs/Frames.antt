@@ -10,7 +10,7 @@ use Rattle.cells.specs.declared.Cell.{Cell}
 use Rattle.machine.specs.Values.{cell}
 use Rattle.machine.specs.Machine.{Handler, host}
 use Rattle.memory.specs.Layout.{Written, untargeted, written, written_cells, flat}
-use Rattle.memory.specs.Lists.{set_append_add}
+use Rattle.memory.proofs.Lists.{set_append_add}
 use Rattle.moves.specs.Runs.{Top, Turns, Stands, Settles, end_of, opened, opened_top, top_length, with_handlers, with_counts, add_handler, clear_handlers}
 use Rattle.moves.specs.Frames.{live_stands, stands_live}
 use Rattle.moves.specs.declared.Running.{Running}

@@ -9,7 +9,7 @@ use Rattle.cells.specs.declared.Cell.{Cell}
 use Rattle.machine.specs.Machine.{Frame, host, frame_cost, frames_cost}
 use Rattle.memory.specs.Layout.{flat}
 use Rattle.memory.specs.View.{frames_size}
-use Rattle.memory.specs.Lists.{length_flat}
+use Rattle.memory.proofs.Lists.{length_flat}
 use Rattle.moves.specs.Frames.{Live}
 use Rattle.moves.specs.Starts.{Starting, frames_lower}
 use Rattle.plan.specs.Rest.{Begins}

@@ -7,7 +7,7 @@ use Rattle.cells.specs.declared.Cell.{Cell}
 use Rattle.machine.specs.Values.{Program}
 use Rattle.machine.specs.Machine.{Frame, host, frame_cost, frames_cost}
 use Rattle.machine.specs.Calls.{distinct}
-use Rattle.memory.specs.Lists.{length_flat, cost_written}
+use Rattle.memory.proofs.Lists.{length_flat, cost_written}
 use Rattle.moves.specs.Runs.{end_of, opened, opened_top}
 use Rattle.moves.specs.Frames.{live_stands}
 use Rattle.moves.specs.declared.Running.{Running}

@@ -13,7 +13,7 @@ use Rattle.moves.specs.Runs.{Turns, end_of, with_counts, with_stack, pushed, pus
 use Rattle.moves.specs.Objects.{Stored, made, list_stored}
 use Rattle.moves.specs.declared.Running.{Running}
 use Rattle.plan.specs.Rest.{Same, Appends}
-use Rattle.plan.specs.Appended.{appends_none, appends_made}
+use Rattle.plan.proofs.Appended.{appends_none, appends_made}
 use Rattle.plan.specs.Plans.{taken_count, listed_cells, Enough}
 use Rattle.plan.specs.Parsed.{Lists, Pushes, PushesFrom}
 use Rattle.plan.specs.declared.Params.{Params}

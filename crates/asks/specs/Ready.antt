@@ -13,9 +13,9 @@ use Rattle.machine.specs.Calls.{is_value}
 use Rattle.machine.specs.Form.{WorldFits}
 use Rattle.memory.specs.Layout.{Holds}
 use Rattle.memory.specs.Tests.{value_fits, in_form}
-use Rattle.memory.specs.FrameLaws.{value_is_lem}
-use Rattle.memory.specs.StoreLaws.{reads}
-use Rattle.memory.specs.Exact.{exact_in}
+use Rattle.memory.proofs.FrameLaws.{value_is_lem}
+use Rattle.memory.proofs.StoreLaws.{reads}
+use Rattle.memory.proofs.Exact.{exact_in}
 use Rattle.form.specs.Entry.{Entered, entry, held, held_answer, live_of, store_of, view_of}
 use Rattle.asks.specs.Asks.{sizes_of}
 use Rattle.asks.specs.Entries.{used_in, exists}

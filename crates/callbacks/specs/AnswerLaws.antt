@@ -6,12 +6,12 @@ use Rattle.std.proofs.lemmas.Bool.{not-true, not-false}
 use Rattle.cells.specs.Cells.{room, cells}
 use Rattle.cells.specs.declared.Cell.{Cell}
 use Rattle.image.specs.Records.{if?, both, Answer, refused, accepted}
-use Rattle.image.specs.Parts.{first, second}
+use Rattle.image.proofs.Parts.{first, second}
 use Rattle.machine.specs.Values.{Program}
 use Rattle.machine.specs.Machine.{Object, used}
 use Rattle.machine.specs.Calls as machine
 use Rattle.machine.specs.Calls.{Sizes, Outcome, stops, World, no_fuel}
-use Rattle.machine.specs.StepLaws.{if_cases}
+use Rattle.machine.proofs.StepLaws.{if_cases}
 use Rattle.memory.specs.Layout.{bit, state_cells}
 use Rattle.requests.specs.Sent.{unused, kind_of, return_of, answer_with, answering, request_of, in_turn, whole, asking, sent_outcome}
 use Rattle.requests.specs.Returned.{return_fits}

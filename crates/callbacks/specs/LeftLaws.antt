@@ -7,7 +7,7 @@ use Rattle.machine.specs.Values.{Program}
 use Rattle.machine.specs.Machine.{Frame, host}
 use Rattle.machine.specs.Calls.{distinct}
 use Rattle.memory.specs.Layout.{flat, frame_cells}
-use Rattle.memory.specs.Lists.{length_flat}
+use Rattle.memory.proofs.Lists.{length_flat}
 use Rattle.moves.specs.Frames.{Live}
 use Rattle.plan.specs.Rest.{Same, Begins}
 use Rattle.plan.specs.declared.Counts.{Counts}

@@ -7,7 +7,7 @@ use Rattle.std.proofs.Math.Bool.{true, false}
 use native.Mathlib.Omega.{arith}
 use Rattle.cells.specs.declared.Cell.{Cell}
 use Rattle.image.specs.Records.{if?}
-use Rattle.image.specs.Parts.{clash}
+use Rattle.image.proofs.Parts.{clash}
 use Rattle.machine.specs.Values.{Program, lucia_error, lucia_panic}
 use Rattle.machine.specs.Machine.{Frame, lucia, host, effect_callback, Object, Result, running, returned, failed, unhandled, M, with_frames, handlers_of}
 use Rattle.machine.specs.Opcodes.{Action, calls, performs, throws, returns, doing, Taken, refuses}

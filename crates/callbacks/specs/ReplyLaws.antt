@@ -16,7 +16,7 @@ use Rattle.machine.specs.Calls.{Sizes, Outcome, top_handlers, handlers_left, doe
 use Rattle.machine.specs.Demand.{All}
 use Rattle.machine.specs.Form.{FrameFits}
 use Rattle.memory.specs.Layout.{flat, result_shown, state_cells, live_cells, Holds}
-use Rattle.memory.specs.Lists.{length_flat}
+use Rattle.memory.proofs.Lists.{length_flat}
 use Rattle.moves.specs.Frames.{Live}
 use Rattle.moves.specs.Objects.{Stored}
 use Rattle.plan.specs.Rest.{Same, counts_of, Held, Rests}

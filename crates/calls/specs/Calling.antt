@@ -16,13 +16,13 @@ use Rattle.cells.specs.declared.Cell.{Cell}
 use Rattle.image.specs.Records.{if?, both}
 use Rattle.image.specs.Program.{Code}
 use Rattle.image.specs.Layout.{code_at}
-use Rattle.image.specs.Parts.{clash, first, second, length_tab}
+use Rattle.image.proofs.Parts.{clash, first, second, length_tab}
 use Rattle.program.specs.Looks.{body_at}
 use Rattle.machine.specs.Values.{Program, cell, closure_at, code_of, code_params, type_of, is_effect, call_arguments, meta_un_operator}
 use Rattle.machine.specs.Machine.{Frame, host, effect_callback, Object, closure, list, continuation, returned, M, with_frames, with_result, with_store, Lookup, here, absent, object_at, wrong_count, parse, parse_args, throw_error, Function, is_closure, is_callback, is_effect_callback, is_continuation, is_none, closure_function, continuation_function, function_of, put_back, resume, new_frame, call_closure, call_function, return_value}
 use Rattle.machine.specs.Opcodes.{callable}
 use Rattle.machine.specs.Calls.{is_closure_at, is_continuation_at, is_value, is_function}
-use Rattle.machine.specs.FormRules.{object_at_lem}
+use Rattle.machine.proofs.FormRules.{object_at_lem}
 use Rattle.memory.specs.Layout.{written, object_cells}
 use Rattle.moves.specs.Frames.{new_written}
 use Rattle.moves.specs.Objects.{object_there}

@@ -10,15 +10,16 @@ use Rattle.cells.specs.CellsLaws.{length_cells}
 use Rattle.cells.specs.declared.Cell.{Cell}
 use Rattle.machine.specs.Values.{Program, list_at, continuation_at, thrown, shown}
 use Rattle.machine.specs.Machine.{Frame, lucia, host, effect_callback, Object, list, continuation, Result, M, frame_cost, frames_cost, cost, used, result_cost, parse, enter}
-use Rattle.machine.specs.Store.{used_append}
+use Rattle.machine.proofs.Store.{used_append}
 use Rattle.memory.specs.Layout.{written, flat}
-use Rattle.memory.specs.Lists.{written_cost, length_flat, flat_append, cost_append}
+use Rattle.memory.specs.Lists.{written_cost}
+use Rattle.memory.proofs.Lists.{length_flat, flat_append, cost_append}
 use Rattle.moves.specs.Runs.{clear_handlers}
 use Rattle.moves.specs.Frames.{Live, kept_stack}
 use Rattle.moves.specs.Objects.{Stored, made, captured}
 use Rattle.moves.specs.Starts.{lower}
 use Rattle.plan.specs.Rest.{Appends}
-use Rattle.plan.specs.Appended.{appends_same, appends_two, appends_made}
+use Rattle.plan.proofs.Appended.{appends_same, appends_two, appends_made}
 use Rattle.plan.specs.Plans.{Throws, Shows, taken_count, listed_cells, Enough, Handled, Caught, one_param}
 use Rattle.plan.specs.Parsed.{Lists}
 use Rattle.plan.specs.declared.Counts.{Counts}

@@ -19,7 +19,7 @@ use Rattle.memory.specs.Layout.{Written}
 use Rattle.moves.specs.Runs.{Top, Runs, end_of, Settles, top_length}
 use Rattle.moves.specs.declared.Running as registers
 use Rattle.plan.specs.Rest.{Held}
-use Rattle.plan.specs.Appended.{appends_refl}
+use Rattle.plan.proofs.Appended.{appends_refl}
 use Rattle.plan.specs.Plans.{error_of, Carries}
 use Rattle.plan.specs.declared.Error.{Error}
 use Rattle.plan.specs.declared.Plan.{Plan}

@@ -13,7 +13,7 @@ use Rattle.machine.specs.Calls.{Sizes, handlers_left, outcome, pace_of}
 use Rattle.memory.specs.Layout.{Written}
 use Rattle.moves.specs.Runs.{Top, end_of, Settles}
 use Rattle.moves.specs.declared.Running as registers
-use Rattle.plan.specs.Appended.{appends_refl}
+use Rattle.plan.proofs.Appended.{appends_refl}
 use Rattle.plan.specs.Plans.{Carries}
 use Rattle.plan.specs.declared.Plan.{Plan}
 use Rattle.calls.specs.Called.{ReturnsValue}

@@ -12,11 +12,12 @@ use Rattle.cells.specs.declared.Cell.{Cell}
 use Rattle.image.specs.Records.{if?}
 use Rattle.machine.specs.Values.{Program, cell, continuation_at}
 use Rattle.machine.specs.Machine.{Frame, lucia, host, effect_callback, Object, list, continuation, Result, running, M, frame_cost, frames_cost, cost, used, result_cost, with_frames, with_result, here, object_at, parse, enter, give, put_back, receive}
-use Rattle.machine.specs.Store.{used_append}
-use Rattle.machine.specs.FormRules.{object_at_lem}
+use Rattle.machine.proofs.Store.{used_append}
+use Rattle.machine.proofs.FormRules.{object_at_lem}
 use Rattle.memory.specs.Layout.{Written, written, frame_cells, flat, object_cells}
 use Rattle.memory.specs.View.{frames_size}
-use Rattle.memory.specs.Lists.{written_cost, cost_written, length_flat, flat_append, cost_append}
+use Rattle.memory.specs.Lists.{written_cost}
+use Rattle.memory.proofs.Lists.{cost_written, length_flat, flat_append, cost_append}
 use Rattle.moves.specs.Runs.{Top, end_of, top_length}
 use Rattle.moves.specs.Frames.{Live, live_stands, kept_stack, kept_in, kept_opened, give_written, receive_written, new_written}
 use Rattle.moves.specs.Objects.{There, last_of, object_there, sizes}

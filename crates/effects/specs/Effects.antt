@@ -12,7 +12,7 @@ use Rattle.image.specs.Program.{Code, no_code, part}
 use Rattle.image.specs.Fine.{no_constant}
 use Rattle.image.specs.Effects.{same_effect}
 use Rattle.image.specs.Layout.{field, code_at}
-use Rattle.image.specs.Parts.{length_tab}
+use Rattle.image.proofs.Parts.{length_tab}
 use Rattle.image.specs.declared.Constant.{Constant}
 use Rattle.program.specs.Parts.{tab_past}
 use Rattle.machine.specs.Values.{Program, code_of, constant_of, equal_effects, effect_params, match_effect_handler}

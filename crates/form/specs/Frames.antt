@@ -6,7 +6,7 @@ use Prim.Native.Nat.{ℕ, zero, suc, ◌+◌, ◌-◌, ◌*◌, ◌<◌, ◌≤�
 use native.Mathlib.Omega.{arith}
 use Rattle.cells.specs.Cells.{null, room, cells}
 use Rattle.cells.specs.declared.Cell.{Cell}
-use Rattle.image.specs.Parts.{first, second}
+use Rattle.image.proofs.Parts.{first, second}
 use Rattle.machine.specs.Values.{Program}
 use Rattle.memory.specs.View.{frame_size, frames_size}
 use Rattle.memory.specs.Tests.{frame_fits, frames_fit, top_kind}

@@ -12,7 +12,7 @@ use Rattle.cells.specs.Parts.{cells_part}
 use Rattle.cells.specs.declared.Cell.{Cell}
 use Rattle.image.specs.Records.{both}
 use Rattle.image.specs.Program.{Code, all}
-use Rattle.image.specs.Parts.{first, length_tab}
+use Rattle.image.proofs.Parts.{first, length_tab}
 use Rattle.image.specs.Layout.{field, code_at}
 use Rattle.machine.specs.Values.{Program, code_of}
 use Rattle.memory.specs.View.{frames_size}

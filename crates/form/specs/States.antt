@@ -8,7 +8,7 @@ use Rattle.cells.specs.CellsLaws.{length_cells}
 use Rattle.cells.specs.declared.Cell.{Cell}
 use Rattle.image.specs.Records.{if?, both}
 use Rattle.image.specs.Program.{all}
-use Rattle.image.specs.Parts.{first, second}
+use Rattle.image.proofs.Parts.{first, second}
 use Rattle.machine.specs.Values.{Program}
 use Rattle.memory.specs.View.{frames_size}
 use Rattle.memory.specs.Tests.{is_null_cell, value_fits, effect_fits, frames_fit, top_kind, turn_fits, store_fits, live_fits, error_fits, result_fits, in_form}

@@ -9,7 +9,7 @@ use Rattle.machine.specs.Calls.{closing, failing, run}
 use Rattle.moves.specs.Runs.{Settles, end_of}
 use Rattle.moves.specs.declared.Running as registers
 use Rattle.plan.specs.Rest.{Same, Appends}
-use Rattle.plan.specs.Appended.{appends_refl}
+use Rattle.plan.proofs.Appended.{appends_refl}
 use Rattle.plan.specs.declared.Counts.{Counts}
 use Rattle.plan.specs.declared.Error.{Error}
 use Rattle.slices.specs.Sliced.{Ended}

@@ -16,7 +16,7 @@ use Rattle.moves.specs.Runs.{Settles, end_of}
 use Rattle.moves.specs.Frames.{Live, runs_live}
 use Rattle.moves.specs.declared.Running as registers
 use Rattle.plan.specs.Rest.{Same, counts_of, Begins, Rests}
-use Rattle.plan.specs.InsideLaws.{runs_cost}
+use Rattle.plan.proofs.InsideLaws.{runs_cost}
 use Rattle.plan.specs.declared.Counts.{Counts}
 use Rattle.slices.specs.Sliced.{At, Reached, Spends}
 use Rattle.slices.specs.SlicedLaws.{at_ready}

@@ -12,7 +12,7 @@ use Rattle.machine.specs.Calls.{Sizes, world, nothing, ends, run, alone}
 use Rattle.moves.specs.Runs.{opened}
 use Rattle.moves.specs.declared.Running as registers
 use Rattle.plan.specs.Rest.{Same, Appends}
-use Rattle.plan.specs.Appended.{appends_refl, appends_same, appends_two}
+use Rattle.plan.proofs.Appended.{appends_refl, appends_same, appends_two}
 use Rattle.plan.specs.declared.Counts.{Counts}
 use Rattle.slices.specs.Follows.{Follows, follows_none, follows_on}
 use Rattle.slices.specs.Sliced.{Slices}

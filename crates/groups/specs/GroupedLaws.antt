@@ -13,8 +13,9 @@ use Rattle.machine.specs.Values.{Program}
 use Rattle.machine.specs.Machine.{M}
 use Rattle.machine.specs.Opcodes.{Action, next_action}
 use Rattle.machine.specs.Calls.{Sizes, does, stops, outcome, world, nothing, Trace, ends, is_done, is_host, is_ready, turn_of, Pace, closing, failing, alone, pace_of, charge, goes_on, no_ticks, tick, run}
-use Rattle.machine.specs.StepLaws.{Refusal, refusal_some, refusal_small, step_law, refused_step}
-use Rattle.machine.specs.FormLaws.{MachineFits, step_fits}
+use Rattle.machine.specs.StepLaws.{Refusal}
+use Rattle.machine.proofs.StepLaws.{refusal_some, refusal_small, step_law, refused_step}
+use Rattle.machine.proofs.FormLaws.{MachineFits, step_fits}
 use Rattle.plan.specs.Rest.{counts_of}
 use Rattle.plan.specs.declared.Counts.{Counts}
 use Rattle.slices.specs.Follows.{Follows, follows_on, follows_step, follows_stop}

@@ -12,12 +12,13 @@ use Rattle.machine.specs.Machine.{Frame, lucia, Object, closure, M, Lookup, here
 use Rattle.machine.specs.Opcodes.{Running, throws, takes, next_action}
 use Rattle.machine.specs.Calls.{Sizes, handlers_left}
 use Rattle.machine.specs.Demand.{All}
-use Rattle.machine.specs.Formed.{FrameFormed, all_map}
-use Rattle.machine.specs.FormedLaws.{next_formed, taken_formed}
-use Rattle.machine.specs.FormLaws.{MachineFits}
-use Rattle.machine.specs.Store.{cost_some}
+use Rattle.machine.specs.Formed.{FrameFormed}
+use Rattle.machine.proofs.Formed.{all_map}
+use Rattle.machine.proofs.FormedLaws.{next_formed, taken_formed}
+use Rattle.machine.proofs.FormLaws.{MachineFits}
+use Rattle.machine.proofs.Store.{cost_some}
 use Rattle.memory.specs.Layout.{object_cells}
-use Rattle.memory.specs.StoreLaws.{length_object}
+use Rattle.memory.proofs.StoreLaws.{length_object}
 use Rattle.moves.specs.Objects.{object_there}
 use Rattle.moves.specs.Runs.{end_of, opened, top_length}
 use Rattle.moves.specs.declared.Running as registers

@@ -14,7 +14,7 @@ use Rattle.machine.specs.Values.{Program}
 use Rattle.machine.specs.Machine.{M}
 use Rattle.machine.specs.Calls.{Sizes}
 use Rattle.plan.specs.Rest.{Appends}
-use Rattle.plan.specs.Appended.{appends_refl, appends_two}
+use Rattle.plan.proofs.Appended.{appends_refl, appends_two}
 use Rattle.plan.specs.declared.Counts.{Counts}
 use Rattle.acts.specs.Acted.{Bounded, Resting}
 use Rattle.acts.specs.declared.Acted.{Acted}

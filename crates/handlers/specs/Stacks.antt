@@ -11,7 +11,7 @@ use Rattle.cells.specs.declared.Cell.{Cell}
 use Rattle.machine.specs.Values.{Program}
 use Rattle.machine.specs.Machine.{Frame, lucia, host, effect_callback, effects, handlers_of, holds, Found, found, nowhere, under, find, search}
 use Rattle.memory.specs.Layout.{Written, written, flat}
-use Rattle.memory.specs.Lists.{effects_untargeted}
+use Rattle.memory.proofs.Lists.{effects_untargeted}
 use Rattle.moves.specs.Runs.{Top, end_of, opened, opened_top, top_length}
 use Rattle.moves.specs.Frames.{Live, live_stands, live_drop}
 use Rattle.moves.specs.Handlers.{First, holds_at, holds_none}

@@ -7,6 +7,4 @@ pub mod Operands
 pub mod Parts
 pub mod Agrees
 pub mod Fine
-pub mod Accepted
 pub mod Build
-pub mod Samples

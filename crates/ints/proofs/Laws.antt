@@ -6,8 +6,9 @@ use borrow.Author.Tests.{lt-leb}
 use lib.Signed.{non_neg, lt_z, le_z}
 use Rattle.ints.specs.declared.Division.TheVariants.{Of, ZeroDivisor}
 use Rattle.ints.specs.Ints.{signed, wrap, divided, is_negative, unsigned_abs, with_sign, neg, add, sub, mul, lt, le}
-use Rattle.ints.specs.Modulo.{opposite, is_opposite, is_difference, by_halves}
-use Rattle.ints.specs.IntLaws.{wrap_neg, wrap_sum, wrap_difference, wrap_product, signed_low, signed_high, wrap_signed}
+use Rattle.ints.specs.Modulo.{opposite}
+use Rattle.ints.proofs.Modulo.{is_opposite, is_difference, by_halves}
+use Rattle.ints.proofs.IntLaws.{wrap_neg, wrap_sum, wrap_difference, wrap_product, signed_low, signed_high, wrap_signed}
 
 -- a product of two numbers of at most k
 pub bound : (x y k : ℕ) → x ≤ k → y ≤ k → x * y ≤ k * k

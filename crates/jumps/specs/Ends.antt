@@ -18,7 +18,7 @@ use Rattle.moves.specs.Runs.{Runs, Top, with_counts, pop_top, place_top}
 use Rattle.moves.specs.declared.Running as registers
 use Rattle.plan.specs.Plans.{error_of}
 use Rattle.plan.specs.Inside.{Inside, left, Nexts, Does}
-use Rattle.plan.specs.InsideLaws.{goes_fits, jumps_fits, runs_cost, runs_fits, handlers_few}
+use Rattle.plan.proofs.InsideLaws.{goes_fits, jumps_fits, runs_cost, runs_fits, handlers_few}
 use Rattle.plan.specs.declared.Error.{Error}
 use Rattle.plan.specs.declared.Next.{Next}
 use Rattle.plan.specs.declared.Next.TheVariants.{Goes, Jumps, Throws, Stops}

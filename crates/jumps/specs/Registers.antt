@@ -19,7 +19,7 @@ use Rattle.moves.specs.declared.Running as registers
 use Rattle.plan.specs.Plans.{error_of}
 use Rattle.plan.specs.Searches.{Finds}
 use Rattle.plan.specs.Inside.{Inside, left, Nexts, Does}
-use Rattle.plan.specs.InsideLaws.{goes_fits, goes_short, goes_handlers, runs_cost, handlers_few}
+use Rattle.plan.proofs.InsideLaws.{goes_fits, goes_short, goes_handlers, runs_cost, handlers_few}
 use Rattle.plan.specs.declared.Error.{Error}
 use Rattle.plan.specs.declared.Next.TheVariants.{Goes, Throws, Stops}
 use Rattle.jumps.specs.Ends.{fewer, Shown, Acts, room_left, acts_stops, acts_throws, top_none, top_acts}

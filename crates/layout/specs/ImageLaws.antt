@@ -9,8 +9,9 @@ use Rattle.std.proofs.Math.Dec.{eqb}
 use borrow.Author.Tests.{le-leb, lt-leb, eq-eqb, ne_eqb, not-false}
 use Rattle.cells.specs.Le.{le_at}
 use Rattle.image.specs.Records.{if?, both, size, kind, after}
-use Rattle.image.specs.Operands.{least_or, above}
-use Rattle.image.specs.Parts.{constant_true, Entered, entered}
+use Rattle.image.proofs.Operands.{least_or, above}
+use Rattle.image.specs.Parts.{Entered}
+use Rattle.image.proofs.Parts.{constant_true, entered}
 use Rattle.image.specs.Image.{sized, constant, refusal}
 
 -- ---- Sizes of constants

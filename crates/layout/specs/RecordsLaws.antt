@@ -3,7 +3,7 @@ use Rattle.std.specs.Prelude.{◌≡◌, List, Bool, true, false, not, ℕ, ◌+
 use Rattle.std.proofs.Math.Path.{sym}
 use Rattle.std.proofs.Common.{◌∙◌, arith, length-drop, length-take-le}
 use borrow.Author.Tests.{le-leb, lt-leb, eq-eqb, ne_eqb, not-true, not-false}
-use Rattle.image.specs.Parts.{whole_true, listed_true}
+use Rattle.image.proofs.Parts.{whole_true, listed_true}
 use Rattle.image.specs.Records.{both, size, kind, after, whole, listed}
 
 -- where what follows a record begins, in the list

@@ -6,7 +6,7 @@ use native.Mathlib.Omega.{arith}
 use borrow.Author.Tests.{le-leb, lt-leb, not-true, not-false}
 use Rattle.image.specs.Records.{both, Answer, refused, accepted, then, size, body, after, whole, listed}
 use Rattle.layout.specs.RecordsLaws.{Behind, part_length}
-use Rattle.image.specs.Parts.{first, second, whole_true, listed_true}
+use Rattle.image.proofs.Parts.{first, second, whole_true, listed_true}
 use Rattle.image.specs.Image.{opcodes_at, globals_at, captures_at, constants_at, codes_at, constant}
 use Rattle.image.specs.Layout.{Tables, Places, places_from, front, row, row_of, begin}
 use Rattle.layout.specs.declared.Parts.{Parts}

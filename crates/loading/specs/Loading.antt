@@ -11,9 +11,9 @@ use Rattle.cells.specs.declared.Cell.{Cell}
 use Rattle.image.specs.Records.{Answer, refused, accepted}
 use Rattle.image.specs.Program.{Code, no_code, tab}
 use Rattle.image.specs.Image.{parse}
-use Rattle.image.specs.Parts.{tab_at, length_tab}
+use Rattle.image.proofs.Parts.{tab_at, length_tab}
 use Rattle.image.specs.Layout.{field, code_at, capture_at}
-use Rattle.image.specs.Accepted.{accepted_fine}
+use Rattle.image.proofs.Accepted.{accepted_fine}
 use Rattle.layout.specs.declared.Read.{Read}
 use Rattle.reader.specs.Reads.{Reads}
 use Rattle.machine.specs.Values.{Program, closure_at, cell}

@@ -24,7 +24,7 @@ use Rattle.plan.specs.declared.Next.{Next}
 use Rattle.plan.specs.declared.Next.TheVariants.{Goes, Stops}
 use Rattle.plan.specs.Rest.{Same, Block}
 use Rattle.plan.specs.Inside.{Inside, left, Went, DoesWhere, Does}
-use Rattle.plan.specs.InsideLaws.{goes_fits, goes_short, runs_cost, runs_fits, handlers_few}
+use Rattle.plan.proofs.InsideLaws.{goes_fits, goes_short, runs_cost, runs_fits, handlers_few}
 
 -- ---- A frame that goes on, or can't
 module _ {P : Program} {z : Sizes} {m : M} {r : Running} {g : registers.Running} {L S : List Cell} (i : Inside P z m r g L S) where

@@ -13,14 +13,14 @@ use Rattle.image.specs.Records.{if?, Answer, refused, accepted, then}
 use Rattle.image.specs.Program.{Code}
 use Rattle.image.specs.Fine.{Accepted}
 use Rattle.image.specs.Image.{parse}
-use Rattle.image.specs.Accepted.{accepted_fine}
+use Rattle.image.proofs.Accepted.{accepted_fine}
 use Rattle.layout.specs.Reads.{Low}
 use Rattle.layout.specs.declared.Read.{Read}
 use Rattle.layout.specs.declared.Read.TheVariants as reads
 use Rattle.reader.specs.Reads.{Fits}
 use Rattle.machine.specs.Values.{Program}
 use Rattle.memory.specs.Tests.{in_form}
-use Rattle.memory.specs.Exact.{exact_in}
+use Rattle.memory.proofs.Exact.{exact_in}
 use Rattle.scan.specs.Tables.{program_in}
 use Rattle.form.specs.Entry as form
 use Rattle.form.specs.Entry.{entry, held, held_answer, live_of, store_of, view_of, Enters}

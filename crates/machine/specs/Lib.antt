@@ -5,10 +5,8 @@ pub mod Opcodes
 pub mod Calls
 -- Demand 3: the statement is Demand, the theorem the end of Theorem; `demands` has the same of the exported functions.
 pub mod Demand
-pub mod Store
 pub mod DemandLaws
 pub mod Kept
-pub mod Theorem
 -- Laws: of steps, of runs (ticks, pauses, endings), of slices and of one group; every machine reached is in form; the form that refusal 7 tests (Form) is closed under the rules (FormLaws); which refusals each step can give; what a step does not read.
 pub mod StepLaws
 pub mod RunLaws

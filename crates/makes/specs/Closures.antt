@@ -8,7 +8,7 @@ use Rattle.cells.specs.CellsLaws.{length_cells}
 use Rattle.cells.specs.Le.{le_at}
 use Rattle.cells.specs.declared.Cell.{Cell}
 use Rattle.image.specs.Program.{Code}
-use Rattle.image.specs.Parts.{length_tab}
+use Rattle.image.proofs.Parts.{length_tab}
 use Rattle.image.specs.Layout.{field}
 use Rattle.image.specs.Fine.{Accepted, Fine, CaptureIn, no_constant, no_capture, bytes_of}
 use Rattle.image.specs.declared.Capture.{Capture}
@@ -19,15 +19,15 @@ use Rattle.machine.specs.Values.{Program, code_of, cell, closure_at}
 use Rattle.machine.specs.Machine.{Object, closure, M, cost, used, here, object_at}
 use Rattle.machine.specs.Opcodes.{Running, makes, takes, stacked, captured, load_const, opcode_action}
 use Rattle.machine.specs.Calls.{Sizes}
-use Rattle.machine.specs.FormRules.{object_at_lem}
+use Rattle.machine.proofs.FormRules.{object_at_lem}
 use Rattle.memory.specs.Layout.{Written}
 use Rattle.moves.specs.Runs.{Top, Runs, Turns, end_of, pushed}
 use Rattle.moves.specs.Objects.{Stored, object_there, upvalue_fits, Building, building_begun, building_more, building_done}
 use Rattle.moves.specs.declared.Running as registers
 use Rattle.plan.specs.Rest.{Appends}
-use Rattle.plan.specs.Appended.{appends_none, appends_refl, appends_again, appends_set}
+use Rattle.plan.proofs.Appended.{appends_none, appends_refl, appends_again, appends_set}
 use Rattle.plan.specs.Inside.{Inside}
-use Rattle.plan.specs.InsideLaws.{runs_fits}
+use Rattle.plan.proofs.InsideLaws.{runs_fits}
 use Rattle.makes.specs.Made.{Named, Closable, MakesClosure, Capturable, Captured}
 use Rattle.makes.specs.Lists.{still, same_cells, no_live_lem, no_store_lem, made_on}
 use Rattle.makes.specs.declared.Made.TheVariants.{On, Refused}

@@ -15,7 +15,7 @@ use Rattle.memory.specs.Layout.{Written}
 use Rattle.moves.specs.Runs.{Top, Runs, with_counts, pop_top}
 use Rattle.moves.specs.declared.Running as registers
 use Rattle.states.specs.Worlds.{GlobalSet, Changes, with_names, global_follows}
-use Rattle.plan.specs.InsideLaws.{judge_does, runs_cost, runs_fits}
+use Rattle.plan.proofs.InsideLaws.{judge_does, runs_cost, runs_fits}
 use Rattle.plan.specs.declared.Next.TheVariants.{Goes, Stops}
 use Rattle.makes.specs.Made.{SetsGlobal}
 use Rattle.makes.specs.Lists.{still, no_result}

@@ -10,16 +10,16 @@ use Rattle.cells.specs.CellsLaws.{length_cells}
 use Rattle.cells.specs.declared.Cell.{Cell}
 use Rattle.machine.specs.Values.{Program, cell, list_at}
 use Rattle.machine.specs.Machine.{Object, list, Result, M, with_store, frame_cost, frames_cost, result_cost, cost, used}
-use Rattle.machine.specs.Store.{used_append}
+use Rattle.machine.proofs.Store.{used_append}
 use Rattle.machine.specs.Opcodes.{Running, makes, doing, Taken, takes, refuses, stacked, build_list, opcode_action}
 use Rattle.machine.specs.Calls.{Sizes, handlers_left, stops, outcome}
 use Rattle.moves.specs.Runs.{Runs, Turns, with_counts, end_of, pushed, pop_top, values_there}
 use Rattle.moves.specs.Objects.{Stored, made, list_stored}
 use Rattle.moves.specs.declared.Running as registers
 use Rattle.plan.specs.Rest.{Same}
-use Rattle.plan.specs.Appended.{appends_refl, appends_made}
+use Rattle.plan.proofs.Appended.{appends_refl, appends_made}
 use Rattle.plan.specs.Inside.{Inside}
-use Rattle.plan.specs.InsideLaws.{judge_does, judge_live, judge_store, runs_cost, runs_fits}
+use Rattle.plan.proofs.InsideLaws.{judge_does, judge_live, judge_store, runs_cost, runs_fits}
 use Rattle.makes.specs.Made.{MadeOn, Makes}
 use Rattle.makes.specs.declared.Made.TheVariants.{On, Refused}
 

@@ -8,6 +8,4 @@ pub mod FrameTests
 pub mod FrameLaws
 pub mod StoreLaws
 pub mod StateLaws
-pub mod Exact
 -- The test on a sample.
-pub mod Rows

@@ -15,7 +15,8 @@ use Rattle.image.specs.Records.{if?}
 use Rattle.machine.specs.Values.{cell, closure_at}
 use Rattle.machine.specs.Machine.{Handler, Frame, lucia, host, effect_callback, frames_cost, give, receive}
 use Rattle.memory.specs.Layout.{Written, written, handler_cells, frame_cells, flat}
-use Rattle.memory.specs.Lists.{written_cost, length_written, length_flat, cost_written, set_append_add}
+use Rattle.memory.specs.Lists.{written_cost}
+use Rattle.memory.proofs.Lists.{length_written, length_flat, cost_written, set_append_add}
 use Rattle.moves.specs.Runs.{Top, Turns, Stands, Settles, Runs, lucia_written, with_stack, with_counts, pushed, clear_handlers, end_of, opened, opened_top, top_length, pop_top}
 use Rattle.moves.specs.declared.Running.{Running}
 

@@ -16,8 +16,9 @@ use Rattle.machine.specs.Values.{cell}
 use Rattle.machine.specs.Machine.{Frame, Object, closure, list, continuation, frame_cost, frames_cost, cost, used, here, absent, object_at, give, put_back}
 use Rattle.memory.specs.Layout.{Written, written, handler_cells, frame_cells, flat, object_cells, store_cells}
 use Rattle.memory.specs.View.{frame_size, frames_size}
-use Rattle.memory.specs.Lists.{written_cost, length_handlers, length_written, length_flat, flat_append, cost_append, cost_written}
-use Rattle.memory.specs.StoreLaws.{length_object, length_store, store_append}
+use Rattle.memory.specs.Lists.{written_cost}
+use Rattle.memory.proofs.Lists.{length_handlers, length_written, length_flat, flat_append, cost_append, cost_written}
+use Rattle.memory.proofs.StoreLaws.{length_object, length_store, store_append}
 use Rattle.moves.specs.Runs.{Top, Stands, loose, pushed, end_of, opened, top_length, part_get}
 use Rattle.moves.specs.Frames.{Live, Lands, kept_stack, kept_in, kept_opened, give_written, stands_live, top_end}
 use Rattle.moves.specs.declared.Running.{Running}

@@ -12,7 +12,7 @@ use Rattle.cells.specs.declared.Cell.{Cell}
 use Rattle.machine.specs.Values.{cell, closure_at}
 use Rattle.machine.specs.Machine.{Handler, Frame}
 use Rattle.memory.specs.Layout.{Written, untargeted, handler_cells, written_cells, flat}
-use Rattle.memory.specs.Lists.{length_handlers, set_append_add}
+use Rattle.memory.proofs.Lists.{length_handlers, set_append_add}
 use Rattle.moves.specs.declared.Running.{Running}
 
 -- ---- Frames with other parts

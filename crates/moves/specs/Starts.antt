@@ -6,7 +6,7 @@ use Rattle.cells.specs.declared.Cell.{Cell}
 use Rattle.machine.specs.Machine.{Frame, frames_cost}
 use Rattle.memory.specs.Layout.{flat}
 use Rattle.memory.specs.View.{frame_size, frames_size}
-use Rattle.memory.specs.Lists.{length_flat, flat_append}
+use Rattle.memory.proofs.Lists.{length_flat, flat_append}
 use Rattle.moves.specs.Runs.{end_of, opened}
 use Rattle.moves.specs.Frames.{Live}
 use Rattle.moves.specs.Objects.{end_opened, sizes}

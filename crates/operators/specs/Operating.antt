@@ -24,7 +24,7 @@ use Rattle.moves.specs.declared.Running as registers
 use Rattle.plan.specs.Plans.{error_of, computed_of}
 use Rattle.plan.specs.Rest.{Same}
 use Rattle.plan.specs.Inside.{Inside, left, Does}
-use Rattle.plan.specs.InsideLaws.{goes_fits, runs_cost, runs_fits, handlers_few}
+use Rattle.plan.proofs.InsideLaws.{goes_fits, runs_cost, runs_fits, handlers_few}
 use Rattle.plan.specs.declared.Error.{Error}
 use Rattle.plan.specs.declared.Computed.{Computed}
 use Rattle.plan.specs.declared.Computed.TheVariants.{Computes, Fails}

@@ -7,7 +7,7 @@ use Rattle.machine.specs.Values.{Program, code_of}
 use Rattle.machine.specs.Machine.{Handler, Frame, lucia, closure, running, M, with_frames, here, object_at}
 use Rattle.machine.specs.Opcodes.{Running, Action, throws, takes, opcode_action}
 use Rattle.machine.specs.Calls.{Sizes, Outcome, does, stops, outcome, Pace, free, counted, pace_of}
-use Rattle.machine.specs.FormLaws.{MachineFits}
+use Rattle.machine.proofs.FormLaws.{MachineFits}
 use Rattle.moves.specs.Runs.{Runs}
 use Rattle.moves.specs.Objects.{Stored}
 use Rattle.moves.specs.declared.Running as registers

@@ -3,7 +3,7 @@ use Rattle.std.specs.Prelude.{◌≡◌, List, [], ℕ, ◌+◌, ◌*◌, ◌<�
 use Rattle.std.proofs.Common.{sym, ap, ◌∙◌}
 use Rattle.cells.specs.Le.{le_at}
 use Rattle.image.specs.Program.{Code, no_op}
-use Rattle.image.specs.Parts.{tab_at}
+use Rattle.image.proofs.Parts.{tab_at}
 use Rattle.image.specs.Layout.{field, opcode_at, capture_at, constant_at, code_at}
 use Rattle.image.specs.declared.Op.{Op}
 use Rattle.image.specs.declared.Capture.{Capture}

@@ -5,7 +5,7 @@ use Rattle.std.proofs.Math.ListN.{get_or-eq_default}
 use Rattle.std.proofs.Math.Seq.{take-nil}
 use Rattle.cells.specs.Le.{le_at, le_join, limit}
 use Rattle.image.specs.Program.{tab}
-use Rattle.image.specs.Parts.{length_tab}
+use Rattle.image.proofs.Parts.{length_tab}
 use Rattle.image.specs.Layout.{field, opcode_at, capture_at, constant_at}
 use Rattle.image.specs.declared.Op.{Op}
 use Rattle.image.specs.declared.Capture.{Capture}

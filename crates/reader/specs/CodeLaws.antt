@@ -11,7 +11,7 @@ use borrow.Author.Tests.{lt-ltb, le-ltb, leb-true, not-true, not-false}
 use Rattle.cells.specs.Le.{le_at, le_part}
 use Rattle.image.specs.Records.{both}
 use Rattle.image.specs.Program.{Code, all, tab, no_op, no_code, opcode_fine, last_fine, constant_fine, capture_fine, counts_fine, code_fine, program_fine}
-use Rattle.image.specs.Parts.{first, second, length_tab, tab_at}
+use Rattle.image.proofs.Parts.{first, second, length_tab, tab_at}
 use Rattle.image.specs.Layout.{field, opcode_at, capture_at, code_at}
 use Rattle.image.specs.declared.Op.{Op}
 use Rattle.reader.specs.declared.Counts.{Counts}

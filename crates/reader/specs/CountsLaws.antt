@@ -6,7 +6,7 @@ use borrow.Author.Tests.{le-leb, lt-leb}
 use Rattle.cells.specs.Le.{le_at}
 use Rattle.image.specs.Records.{both}
 use Rattle.image.specs.Program.{Code, operand_kind, operand_fine, opcode_fine, capture_fine, counts_fine}
-use Rattle.image.specs.Parts.{length_tab}
+use Rattle.image.proofs.Parts.{length_tab}
 use Rattle.image.specs.Layout.{field, code_at}
 use Rattle.image.specs.declared.Op.{Op}
 use Rattle.image.specs.declared.Capture.{Capture}

@@ -10,7 +10,7 @@ use Rattle.std.proofs.Math.Decide.{ℕ_discrete}
 use Rattle.std.proofs.lemmas.Bool.{not-true, not-false}
 use Rattle.image.specs.Records.{both}
 use Rattle.image.specs.Program.{all, tab}
-use Rattle.image.specs.Parts.{both_assoc}
+use Rattle.image.proofs.Parts.{both_assoc}
 
 -- f holds of each number below n
 unfoldable pub every : ℕ → (ℕ → Bool) → Bool

@@ -6,7 +6,7 @@ use Rattle.image.specs.Records.{if?, Answer, refused, accepted, then}
 use Rattle.image.specs.Program.{Code, tab, program_fine}
 use Rattle.image.specs.Image.{parse}
 use Rattle.image.specs.Layout.{Tables, layout, code_at, program_of}
-use Rattle.image.specs.Agrees.{agrees}
+use Rattle.image.proofs.Agrees.{agrees}
 use Rattle.layout.specs.Reads.{out_of, Low, Low?, Laid}
 use Rattle.layout.specs.declared.Read.{Read}
 use Rattle.layout.specs.declared.Read.TheVariants.{Refused, Accepted}

@@ -11,7 +11,7 @@ use Rattle.cells.specs.Le.{le_at}
 use Rattle.utf8.specs.Utf8.{utf8}
 use Rattle.image.specs.Records.{both}
 use Rattle.image.specs.Program.{operand_kind, operand_fine, opcode_fine, last_fine, effect_fine, constant_fine, capture_fine}
-use Rattle.image.specs.Parts.{length_tab}
+use Rattle.image.proofs.Parts.{length_tab}
 use Rattle.image.specs.declared.Op.{Op}
 use Rattle.image.specs.declared.Capture.{Capture}
 use Rattle.image.specs.declared.Constant.{Constant}

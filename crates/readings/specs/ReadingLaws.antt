@@ -8,7 +8,7 @@ use borrow.Author.Tests.{eq-eqb, ne_eqb, lt-ltb, le-ltb, leb-true}
 use Rattle.cells.specs.Cells.{null, cells}
 use Rattle.cells.specs.declared.Cell.{Cell}
 use Rattle.image.specs.Records.{both, Answer, refused, accepted}
-use Rattle.image.specs.Parts.{first}
+use Rattle.image.proofs.Parts.{first}
 use Rattle.machine.specs.Calls.{nothing, line_of, of_page}
 use Rattle.memory.specs.Tests.{value_fits}
 use Rattle.form.specs.Entry.{Entered, entry}

@@ -5,7 +5,7 @@ use Rattle.cells.specs.Cells.{null, cells}
 use Rattle.cells.specs.declared.Cell.{Cell}
 use Rattle.image.specs.Records.{if?, both, Answer, refused, accepted}
 use Rattle.image.specs.Program.{part}
-use Rattle.image.specs.Parts.{first}
+use Rattle.image.proofs.Parts.{first}
 use Rattle.machine.specs.Values.{Program}
 use Rattle.machine.specs.Calls.{Given, nothing, of_image, line_of, of_page, Line, line, missing}
 use Rattle.form.specs.Entry.{Entered}

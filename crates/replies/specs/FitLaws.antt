@@ -15,7 +15,7 @@ use Rattle.machine.specs.Machine.{Object}
 use Rattle.machine.specs.Calls.{is_value, are_values, are_effects}
 use Rattle.memory.specs.Reads.{Reads}
 use Rattle.memory.specs.Tests.{value_fits, effect_fits}
-use Rattle.memory.specs.FrameLaws.{value_is_lem, values_are}
+use Rattle.memory.proofs.FrameLaws.{value_is_lem, values_are}
 use Rattle.scan.specs.Passed.{Passed, passed_not, passed_more, passed_all}
 use Rattle.requests.specs.Returned.{return_fits, called_fits}
 use Rattle.requests.specs.Asked.{CalledFits}

@@ -5,7 +5,7 @@ use Rattle.std.proofs.Common.{sym, ap, subst, ◌∙◌, inl, inr}
 use Rattle.cells.specs.Cells.{room, cells}
 use Rattle.cells.specs.CellsLaws.{length_cells}
 use Rattle.cells.specs.declared.Cell.{Cell}
-use Rattle.image.specs.Parts.{first}
+use Rattle.image.proofs.Parts.{first}
 use Rattle.machine.specs.Values as v
 use Rattle.machine.specs.Values.{Program, lucia_error, lucia_panic}
 use Rattle.machine.specs.Machine.{M, unhandled, function_of, call_function, perform_effect, throw_error}

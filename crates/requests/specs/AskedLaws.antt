@@ -7,7 +7,7 @@ use Rattle.machine.specs.Values.{Program, Error, call_arguments, un_operator, bi
 use Rattle.machine.specs.Machine.{Result, running, returned, failed, unhandled, M, result_cost, used}
 use Rattle.machine.specs.Calls.{stops, World, world}
 use Rattle.machine.specs.Form.{TurnFits, top_of, Top, of_lucia, of_host, of_effect, of_none}
-use Rattle.machine.specs.FormLaws.{MachineFits}
+use Rattle.machine.proofs.FormLaws.{MachineFits}
 use Rattle.memory.specs.Layout.{flat, error_shown, result_shown, state_cells, Holds}
 use Rattle.moves.specs.Frames.{Live}
 use Rattle.states.specs.Worlds.{Changes, Counted, Turned, with_counts, with_turn}

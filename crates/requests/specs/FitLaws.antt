@@ -16,8 +16,8 @@ use Rattle.machine.specs.Calls.{is_value, are_values, is_function}
 use Rattle.machine.specs.Form.{StoreFits}
 use Rattle.memory.specs.Reads.{Reads}
 use Rattle.memory.specs.Tests.{value_fits}
-use Rattle.memory.specs.FrameLaws.{value_is_lem, values_are}
-use Rattle.memory.specs.StoreLaws.{reads}
+use Rattle.memory.proofs.FrameLaws.{value_is_lem, values_are}
+use Rattle.memory.proofs.StoreLaws.{reads}
 use Rattle.moves.specs.Objects.{Stored}
 use Rattle.requests.specs.Asked.{CalledFits}
 

@@ -8,14 +8,15 @@ use Rattle.cells.specs.declared.Cell.{Cell}
 use Rattle.fuel.specs.Fuels.{consume, should_continue}
 use Rattle.fuel.specs.declared.Fuel.{Fuel}
 use Rattle.image.specs.Records.{if?, both, Answer, refused, accepted}
-use Rattle.image.specs.Parts.{clash}
+use Rattle.image.proofs.Parts.{clash}
 use Rattle.machine.specs.Values.{Program}
 use Rattle.machine.specs.Machine.{M}
 use Rattle.machine.specs.Opcodes.{Action, calls, Taken}
 use Rattle.machine.specs.Calls.{Sizes, Outcome, does, stops, outcome, World, world, Step, Trace, steps, ends, nothing, no_fuel, steps_of, answer_of, fuel_after, world_after, CallbackReturn, Request, start, answer, fit, idle, request_action, request_world, end_of, fuel_of, asked, asks, call_of}
-use Rattle.machine.specs.StepLaws.{if_cases}
-use Rattle.machine.specs.Refusals.{among, Only, judge_only}
-use Rattle.machine.specs.RequestRefusals.{answer_refusals}
+use Rattle.machine.proofs.StepLaws.{if_cases}
+use Rattle.machine.specs.Refusals.{among, Only}
+use Rattle.machine.proofs.Refusals.{judge_only}
+use Rattle.machine.proofs.RequestRefusals.{answer_refusals}
 use Rattle.requests.specs.Sent.{Sent, starting, answering, in_turn, whole, unused, kind_of, return_of, answer_with, request_of, asking, sent_outcome, tracing, sent_trace}
 use Rattle.requests.specs.Returned.{called_fits}
 

@@ -7,7 +7,7 @@ use Rattle.std.proofs.Math.ListN.{length}
 use borrow.Author.Tests.{not-true, not-false, eq-eqb, ne_eqb, leb-true}
 use Rattle.cells.specs.Cells.{room, cells}
 use Rattle.cells.specs.declared.Cell.{Cell}
-use Rattle.image.specs.Parts.{clash, first, second}
+use Rattle.image.proofs.Parts.{clash, first, second}
 use Rattle.machine.specs.Values.{Program, Error, call_arguments, un_operator, bin_operator, meta_un_operator, meta_bin_operator, zero_divisor, lucia_error, lucia_panic}
 use Rattle.machine.specs.Machine.{Frame, Result, running, returned, failed, unhandled, M, frames_cost, result_cost, used, function_of, call_function}
 use Rattle.machine.specs.Opcodes.{calls, doing}

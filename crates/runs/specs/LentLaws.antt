@@ -10,7 +10,7 @@ use Rattle.machine.specs.Calls.{World}
 use Rattle.machine.specs.Form.{Top, of_lucia, of_host, of_effect, of_none, TurnFits, top_of}
 use Rattle.memory.specs.Layout.{flat, bit, state_cells}
 use Rattle.memory.specs.View.{frames_size}
-use Rattle.memory.specs.Lists.{length_flat}
+use Rattle.memory.proofs.Lists.{length_flat}
 use Rattle.moves.specs.Starts.{Starting, frames_lower}
 use Rattle.plan.specs.Rest.{Same}
 use Rattle.plan.specs.declared.Counts.{Counts}

@@ -12,7 +12,7 @@ use Rattle.cells.specs.CellsLaws.{length_cells}
 use Rattle.cells.specs.declared.Cell.{Cell}
 use Rattle.image.specs.Records.{both}
 use Rattle.image.specs.Program.{all}
-use Rattle.image.specs.Parts.{first, second}
+use Rattle.image.proofs.Parts.{first, second}
 use Rattle.machine.specs.Values.{Program}
 use Rattle.memory.specs.View.{handlers_of, frame_size, frames_size}
 use Rattle.memory.specs.Tests.{spare_fits, value_fits, kind_fits, limit_of, handlers_fit, head_fits, body_fits, frame_fits, frames_fit}

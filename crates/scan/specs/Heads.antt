@@ -10,7 +10,7 @@ use Rattle.cells.specs.declared.Cell.{Cell}
 use Rattle.image.specs.Records.{both}
 use Rattle.image.specs.Program.{Code}
 use Rattle.image.specs.Layout.{field}
-use Rattle.image.specs.Parts.{length_tab}
+use Rattle.image.proofs.Parts.{length_tab}
 use Rattle.machine.specs.Values.{Program, code_of}
 use Rattle.program.specs.Looks.{body_at}
 use Rattle.memory.specs.View.{locals_of, handlers_of, place_of, stack_of, frame_size}

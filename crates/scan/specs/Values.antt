@@ -14,7 +14,7 @@ use Rattle.image.specs.Records.{if?, both}
 use Rattle.image.specs.Program.{Code, no_code, part}
 use Rattle.image.specs.Fine.{no_constant}
 use Rattle.image.specs.Layout.{field, code_at}
-use Rattle.image.specs.Parts.{clash, first, second, length_tab, tab_at}
+use Rattle.image.proofs.Parts.{clash, first, second, length_tab, tab_at}
 use Rattle.image.specs.declared.Constant.{Constant}
 use Rattle.program.specs.Parts.{tab_past}
 use Rattle.machine.specs.Values.{Program, code_of, bytes_at}

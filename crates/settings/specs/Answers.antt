@@ -9,12 +9,12 @@ use Rattle.std.proofs.lemmas.List.{set-append_left}
 use Rattle.cells.specs.Cells.{cells}
 use Rattle.cells.specs.declared.Cell.{Cell}
 use Rattle.image.specs.Records.{both, Answer}
-use Rattle.image.specs.Parts.{first}
+use Rattle.image.proofs.Parts.{first}
 use Rattle.machine.specs.Machine.{M}
 use Rattle.machine.specs.Opcodes.{Action, sets, sets_builtin, doing}
 use Rattle.machine.specs.Calls.{is_value, Request, set_global, set_builtin, request_world}
 use Rattle.memory.specs.Layout.{Holds, state_head, state_cells, result_shown}
-use Rattle.memory.specs.Lists.{set_append_add}
+use Rattle.memory.proofs.Lists.{set_append_add}
 use Rattle.form.specs.Entry.{Entered, entry, live_of, store_of}
 use Rattle.asks.specs.Asks.{sizes_of, answer, Asked}
 use Rattle.asks.specs.Entries.{exists}

@@ -3,7 +3,7 @@ use Rattle.std.specs.Prelude.{◌≡◌, List, ℕ, ◌+◌, set, ltb}
 use Rattle.cells.specs.Cells.{cells}
 use Rattle.cells.specs.declared.Cell.{Cell}
 use Rattle.image.specs.Records.{both, Answer, refused, accepted}
-use Rattle.image.specs.Parts.{first}
+use Rattle.image.proofs.Parts.{first}
 use Rattle.form.specs.Entry.{Entered}
 use Rattle.asks.specs.Entries.{exists}
 use Rattle.asks.specs.Writing.{Writing}

@@ -5,7 +5,7 @@ use Rattle.std.proofs.Math.Path.{ap}
 use Rattle.cells.specs.Cells.{cells}
 use Rattle.cells.specs.declared.Cell.{Cell}
 use Rattle.image.specs.Program.{Code, no_op}
-use Rattle.image.specs.Parts.{length_tab}
+use Rattle.image.proofs.Parts.{length_tab}
 use Rattle.image.specs.Layout.{field, opcode_at, code_at}
 use Rattle.image.specs.Fine.{Accepted}
 use Rattle.image.specs.declared.Op.{Op}
@@ -18,7 +18,7 @@ use Rattle.machine.specs.Machine.{M}
 use Rattle.machine.specs.Calls.{Sizes}
 use Rattle.moves.specs.declared.Running as registers
 use Rattle.plan.specs.Rest.{Same, Appends}
-use Rattle.plan.specs.Appended.{appends_refl, appends_two}
+use Rattle.plan.proofs.Appended.{appends_refl, appends_two}
 use Rattle.plan.specs.declared.Error.{Error}
 use Rattle.steps.specs.declared.After.{After}
 use Rattle.steps.specs.declared.After.TheVariants as after

@@ -10,7 +10,7 @@ use Rattle.machine.specs.Values.{cell}
 use Rattle.machine.specs.Machine.{Frame, Object, Result, running, used, with_result}
 use Rattle.machine.specs.Calls.{World, world}
 use Rattle.memory.specs.Layout.{bit, result_shown, state_head, state_cells}
-use Rattle.memory.specs.Lists.{set_append_add}
+use Rattle.memory.proofs.Lists.{set_append_add}
 
 -- ---- Worlds with other parts
 abbrev pub with_counts : List Frame → List Object → World → World

@@ -22,7 +22,7 @@ use Rattle.moves.specs.Runs.{end_of}
 use Rattle.moves.specs.Objects.{Stored}
 use Rattle.moves.specs.declared.Running as registers
 use Rattle.plan.specs.Rest.{Block}
-use Rattle.plan.specs.Appended.{appends_refl}
+use Rattle.plan.proofs.Appended.{appends_refl}
 use Rattle.plan.specs.Inside.{DoesWhere, Does}
 use Rattle.plan.specs.declared.Error.{Error}
 use Rattle.plan.specs.declared.Next.{Next}

@@ -4,7 +4,7 @@ use Rattle.std.proofs.Common.{sym, ap, subst, ◌∙◌, arith}
 use Rattle.cells.specs.Le.{le_at}
 use Rattle.cells.specs.declared.Cell.{Cell}
 use Rattle.image.specs.Program.{Code, operand_kind}
-use Rattle.image.specs.Parts.{length_tab}
+use Rattle.image.proofs.Parts.{length_tab}
 use Rattle.image.specs.Layout.{field, code_at}
 use Rattle.image.specs.Fine.{OperandIn, Fine, Sized, no_constant, bytes_of}
 use Rattle.image.specs.declared.Op.{Op}
@@ -18,11 +18,11 @@ use Rattle.machine.specs.Values.{Program, code_of}
 use Rattle.machine.specs.Machine.{M}
 use Rattle.machine.specs.Opcodes.{Running}
 use Rattle.machine.specs.Calls.{Sizes}
-use Rattle.machine.specs.FormRules.{object_at_lem}
+use Rattle.machine.proofs.FormRules.{object_at_lem}
 use Rattle.moves.specs.Runs.{end_of}
 use Rattle.moves.specs.Objects.{object_there, upvalue_fits}
 use Rattle.moves.specs.declared.Running as registers
-use Rattle.plan.specs.InsideLaws.{runs_fits}
+use Rattle.plan.proofs.InsideLaws.{runs_fits}
 use Rattle.makes.specs.Made.{Named}
 use Rattle.steps.specs.Stepped.{Given}
 use Rattle.steps.specs.SteppedLaws.{same_code, operand_in}

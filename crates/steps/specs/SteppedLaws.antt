@@ -13,13 +13,13 @@ use Rattle.machine.specs.Values.{Program, code_of}
 use Rattle.machine.specs.Machine.{Handler, Frame, lucia, Object, closure, M, with_frames, with_store, used, here, Lookup, object_at}
 use Rattle.machine.specs.Opcodes.{Running, Action, makes, Taken, opcode_action, closure_action, next_action}
 use Rattle.machine.specs.Calls.{Sizes, does, outcome, Pace, pace_of, is_ready, turn_of}
-use Rattle.machine.specs.Store.{at_keeps}
-use Rattle.machine.specs.FormLaws.{step_fits}
+use Rattle.machine.proofs.Store.{at_keeps}
+use Rattle.machine.proofs.FormLaws.{step_fits}
 use Rattle.moves.specs.Runs.{Runs}
 use Rattle.moves.specs.Objects.{Stored}
 use Rattle.moves.specs.declared.Running as registers
 use Rattle.plan.specs.Rest.{Same, Appends, Block}
-use Rattle.plan.specs.Appended.{appends_refl, appends_same}
+use Rattle.plan.proofs.Appended.{appends_refl, appends_same}
 use Rattle.plan.specs.Inside.{Inside, Went, left, Nexts, Does}
 use Rattle.plan.specs.declared.Next.{Next}
 use Rattle.plan.specs.declared.Next.TheVariants.{Goes, Jumps, Throws, Stops}

@@ -2,7 +2,7 @@
 use mathlib.Core.Path.{ap, sym}
 use mathlib.Core.Logic.{⊎_elim, inl, inr}
 use Rattle.image.specs.Program.{operand_kind}
-use Rattle.image.specs.Operands.{above, kind_past, kind_marks, kind_jumps, kind_pairs, kind_operators, kind_low, kind_high}
+use Rattle.image.proofs.Operands.{above, kind_past, kind_marks, kind_jumps, kind_pairs, kind_operators, kind_low, kind_high}
 use borrow.Author.Rules.{rules}
 use Rattle.image.proofs.operand_kind.Goals as goal
 

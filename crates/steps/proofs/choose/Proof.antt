@@ -2,7 +2,7 @@
 use borrow.Author.Rules.{rules}
 use mathlib.Core.Logic.{inl, inr}
 use native.Mathlib.Omega.{arith}
-use Rattle.image.specs.Operands.{above}
+use Rattle.image.proofs.Operands.{above}
 use Rattle.steps.specs.Numbers.{left_out}
 use Rattle.steps.proofs.choose.Statement.{statement}
 use Rattle.steps.proofs.choose.Tie as tie

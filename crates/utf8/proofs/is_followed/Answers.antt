@@ -1,6 +1,6 @@
 -- `utf8::is_followed` meets its contract. Assumes nothing.
 use native.Mathlib.Omega.{arith}
-use Rattle.utf8.specs.Laws.{char_alone, char_cut, second_low, second_high, char_two, char_three, char_four, third_no}
+use Rattle.utf8.proofs.Laws.{char_alone, char_cut, second_low, second_high, char_two, char_three, char_four, third_no}
 use Rattle.utf8.proofs.is_followed.Goals as goal
 
 pub returns-then-n-le1 : goal.returns-then-n-le1

@@ -3,7 +3,7 @@ use Prim.Native.Nat.{◌-◌}
 use native.Mathlib.Omega.{arith}
 use lib.ListN.{length}
 use Rattle.utf8.specs.Ascii.{Passed}
-use Rattle.utf8.specs.Laws.{pass_none, pass_run, pass_char, char_inside, pass_none_starts, pass_not_followed, pass_true}
+use Rattle.utf8.proofs.Laws.{pass_none, pass_run, pass_char, char_inside, pass_none_starts, pass_not_followed, pass_true}
 use Rattle.utf8.proofs.is_utf8.Goals as goal
 
 pub loop-i-init : goal.loop-i-init

@@ -1,5 +1,5 @@
 -- `utf8::lead_of` meets its contract. Assumes nothing.
-use Rattle.utf8.specs.FirstLaws.{lead_127, lead_193, lead_223, lead_224, lead_236, lead_237, lead_239, lead_240, lead_243, lead_244, lead_none}
+use Rattle.utf8.proofs.FirstLaws.{lead_127, lead_193, lead_223, lead_224, lead_236, lead_237, lead_239, lead_240, lead_243, lead_244, lead_none}
 use Rattle.utf8.proofs.lead_of.Goals as goal
 
 pub returns-then-x-le127 : goal.returns-then-x-le127

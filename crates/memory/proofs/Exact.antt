@@ -12,7 +12,7 @@ use Rattle.cells.specs.Cells.{null}
 use Rattle.cells.specs.declared.Cell.{Cell}
 use Rattle.image.specs.Records.{both}
 use Rattle.image.specs.Program.{all}
-use Rattle.image.specs.Parts.{first, second}
+use Rattle.image.proofs.Parts.{first, second}
 use Rattle.machine.specs.Values.{Program}
 use Rattle.machine.specs.Machine.{Frame, Object, Result, frames_cost, used, result_cost}
 use Rattle.machine.specs.Calls.{Sizes, World, are_values}
@@ -22,10 +22,12 @@ use Rattle.memory.specs.Layout.{flat, store_cells, Shown, bit, result_shown, sta
 use Rattle.memory.specs.View.{frames_at, frames_size, objects_at, bit_of, read_result, view}
 use Rattle.memory.specs.Tests.{value_fits, top_kind, turn_fits, live_fits, in_form}
 use Rattle.memory.specs.Reads.{Reads}
-use Rattle.memory.specs.Lists.{join, length_flat}
-use Rattle.memory.specs.FrameLaws.{values_append, values_are, frames_in, frames_out}
-use Rattle.memory.specs.StoreLaws.{Stocked, stocked_reads, store_in, store_out, length_store, reads}
-use Rattle.memory.specs.StateLaws.{of_bit, top_number, turn_in, turn_out, Shows, result_in, ResultOut, result_out, top_is}
+use Rattle.memory.proofs.Lists.{join, length_flat}
+use Rattle.memory.proofs.FrameLaws.{values_append, values_are, frames_in, frames_out}
+use Rattle.memory.specs.StoreLaws.{Stocked}
+use Rattle.memory.proofs.StoreLaws.{stocked_reads, store_in, store_out, length_store, reads}
+use Rattle.memory.specs.StateLaws.{top_number, Shows, ResultOut}
+use Rattle.memory.proofs.StateLaws.{of_bit, turn_in, turn_out, result_in, result_out, top_is}
 
 -- ---- The live stack
 -- so many frames in form at the front of x, then so many values

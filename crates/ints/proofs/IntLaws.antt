@@ -11,7 +11,8 @@ use Rattle.std.proofs.Math.IntN.{sub_ℕ}
 use Rattle.std.specs.Int.Signed.{mag, non_neg}
 use Rattle.ints.specs.declared.Division.TheVariants.{Of}
 use Rattle.ints.specs.Ints.{signed, wrap, quotient, divided, with_sign, div, rem}
-use Rattle.ints.specs.Modulo.{mod_times, times_mod, none_plus, opposite, opposite_none, is_opposite, opposite_mod, opposite_opposite, opposite_plus, opposite_times}
+use Rattle.ints.specs.Modulo.{opposite}
+use Rattle.ints.proofs.Modulo.{mod_times, times_mod, none_plus, opposite_none, is_opposite, opposite_mod, opposite_opposite, opposite_plus, opposite_times}
 
 module _ (h : ℕ) (some : 0 < h) where
   abbrev m : ℕ

@@ -1,16 +1,14 @@
 -- Room of an opcode that stays in its frame: judged by where the frame would end.
-use Rattle.std.specs.Prelude.{◌≡◌, refl, List, [], ◌∷◌, true, false, ℕ, suc, ◌+◌, ◌*◌, ◌<◌, ◌≤◌, length, ltb}
-use Rattle.std.proofs.Common.{sym, ◌∙◌, arith, le-ltb, lt-ltb}
+use Rattle.std.specs.Prelude.{◌≡◌, refl, List, [], ◌∷◌, ℕ, suc, ◌+◌, ◌<◌, ◌≤◌, length}
+use Rattle.std.proofs.Common.{◌∙◌, arith, le-ltb, lt-ltb}
 use Rattle.std.proofs.Math.Path.{ap}
 use Rattle.cells.specs.declared.Cell.{Cell}
-use Rattle.image.specs.Records.{if?}
 use Rattle.machine.specs.Values.{Program}
 use Rattle.machine.specs.Machine.{Handler, Frame, lucia, Result, running, M, with_frames, frame_cost, frames_cost, result_cost, used, effects, handlers_of}
-use Rattle.machine.specs.Opcodes.{Running, Action, goes, jumps, doing, Taken, takes, opcode_action}
-use Rattle.machine.specs.Calls.{Sizes, handlers_left, top_handlers, Outcome, does, stops, judge, outcome}
+use Rattle.machine.specs.Opcodes.{Running, Action, goes, jumps, doing, Taken, takes}
+use Rattle.machine.specs.Calls.{Sizes, handlers_left, top_handlers, does, stops, judge, outcome}
 use Rattle.machine.specs.StepLaws.{Fits}
-use Rattle.memory.specs.Layout.{flat}
-use Rattle.memory.specs.Lists.{length_flat}
+use Rattle.memory.proofs.Lists.{length_flat}
 use Rattle.moves.specs.Runs.{Runs, end_of, top_length}
 use Rattle.moves.specs.declared.Running as registers
 use Rattle.plan.specs.Inside.{Inside, left}

@@ -11,20 +11,21 @@ use Rattle.machine.specs.Values.{Program}
 use Rattle.machine.specs.Machine.{used}
 use Rattle.machine.specs.Calls.{Sizes, World, world_after, Call, call_of, Lent, load, loaded, loaded_machine, calls_of}
 use Rattle.machine.specs.Demand.{NoLoads}
-use Rattle.machine.specs.Theorem.{demand3}
+use Rattle.machine.proofs.Theorem.{demand3}
 use Rattle.machine.specs.Form.{WorldFits}
-use Rattle.machine.specs.FormLaws.{loaded_as, load_form}
-use Rattle.machine.specs.RequestRefusals.{load_refusals}
+use Rattle.machine.proofs.FormLaws.{loaded_as, load_form}
+use Rattle.machine.proofs.RequestRefusals.{load_refusals}
 use Rattle.memory.specs.Layout.{store_cells, result_shown, flat}
-use Rattle.memory.specs.StoreLaws.{length_store}
-use Rattle.memory.specs.Exact.{exact_out}
+use Rattle.memory.proofs.StoreLaws.{length_store}
+use Rattle.memory.proofs.Exact.{exact_out}
 use Rattle.form.specs.Entry.{live_of, store_of}
 use Rattle.asks.specs.Asks.{loading, load_answer, Loads}
 use Rattle.asks.specs.Ready.{ready}
 use Rattle.asks.specs.declared.Got.{Got}
 use Rattle.demands.specs.Called.{Memory, sizes, world_in, Exported, Answered, call_for, stands_for, NoLoad, lent_longer, Led, loads, calls, longer, After, Each, Demanded}
-use Rattle.demands.specs.Longer.{longer_holds, longer_fits}
-use Rattle.demands.specs.CalledLaws.{Finds, world_by, same_sizes, Claimed, finds, called}
+use Rattle.demands.proofs.Longer.{longer_holds, longer_fits}
+use Rattle.demands.specs.CalledLaws.{Finds, world_by, Claimed}
+use Rattle.demands.proofs.CalledLaws.{same_sizes, finds, called}
 
 -- the world after one call more
 module _ (P : Program) where

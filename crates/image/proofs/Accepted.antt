@@ -11,7 +11,8 @@ use Rattle.cells.specs.Le.{le_at, le_part}
 use Rattle.image.specs.Records.{if?, both, Answer, refused, accepted, then, size, kind, after, headed, inside, whole}
 use Rattle.image.specs.Program.{Code, operand_kind, operand_fine, opcode_fine, last_fine, part, effect_fine, constant_fine, capture_fine, no_op, no_code, counts_fine, code_fine, program_fine}
 use Rattle.image.specs.Image.{constants_at, codes_at, sized, constant, constants?, constants_from, own, code_of, refusal, Inner, none, inner_from, read_by, read_inner, parse}
-use Rattle.image.specs.Parts.{clash, first, second, all_at, Part, part_whole, part_body, part_number, whole_true, There, constant_true, own_true, entered}
+use Rattle.image.specs.Parts.{Part, There}
+use Rattle.image.proofs.Parts.{clash, first, second, all_at, part_whole, part_body, part_number, whole_true, constant_true, own_true, entered}
 use Rattle.image.specs.declared.Op.{Op}
 use Rattle.image.specs.declared.Capture.{Capture}
 use Rattle.image.specs.declared.Constant.{Constant}

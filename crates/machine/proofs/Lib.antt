@@ -1,0 +1,20 @@
+-- Laws: each file says what it shows.
+pub mod Store
+pub mod DemandLaws
+pub mod Kept
+pub mod Theorem
+pub mod StepLaws
+pub mod RunLaws
+pub mod SliceLaws
+pub mod Group
+pub mod Formed
+pub mod FormedLaws
+pub mod ValueLaws
+pub mod FormRules
+pub mod FormActions
+pub mod FormLaws
+pub mod Refusals
+pub mod RequestRefusals
+pub mod Local
+pub mod Rows
+pub mod Worked

@@ -1,0 +1,4 @@
+-- Laws: each file says what it shows.
+pub mod FirstLaws
+pub mod Laws
+pub mod Samples
