@@ -17,8 +17,7 @@ use Rattle.machine.specs.Values.{Program, code_of, builtin, bytes_at, is_effect,
 use Rattle.machine.specs.Machine.{Handler, Frame, lucia, host, effect_callback, effects, target_of, enter, Object, closure, list, continuation, Result, failed, M, with_frames, with_store, used, Lookup, here, absent, object_at, check_args, wrong_count, Parsed, parse, parse_args, holds, handlers_of, Found, found, nowhere, under, find, search, capture, perform_by, throw_error, perform_effect, Function, is_closure, is_callback, is_effect_callback, is_continuation, is_none, closure_function, continuation_function, function_of, give, put_back, resume, new_frame, call_closure, call_function, receive, return_value}
 use Rattle.machine.specs.Opcodes.{callable}
 use Rattle.machine.specs.Calls.{without, distinct}
-use Rattle.machine.specs.Demand.{All, Any, Deed, captures, other, Same, count_of, mark_of, Fits, Passed, Handles, Captured, Entered, Operates, handled, nobody, Throws, Performs, gets, bare, returning, Stored, Callable, Calls, begins, asks_host, as_effect, resumes, unfit, unfit_values, no_function, PutIn}
-use Rattle.machine.specs.DemandLaws.{Known, Ruled}
+use Rattle.machine.specs.Demand.{All, Any, Deed, captures, other, Same, count_of, mark_of, Fits, Passed, Handles, Captured, Entered, Operates, handled, nobody, Throws, Performs, gets, bare, returning, Stored, Callable, Calls, begins, asks_host, as_effect, resumes, unfit, unfit_values, no_function, PutIn, From}
 
 pub no : {A : Type 0} → false ≡ true → A
 no e = absurd (let z : ◌≡◌ {A = ℕ} 0 1 = cc in omega arith)
@@ -258,7 +257,7 @@ module _ (P : Program) (m : M) where
       → Operates P m e args left F (captures (used m.store) K)
       (capture P (effect_params P e) e args left (with_frames F m) (found K h below))
   unfolding capture
-  handled_law e args left F K below h w p n = handled K below h _ _ _ w p (n _ _)
+  handled_law e args left F K below h w p n = handled K below h _ _ _ w p (n _ (passed e args K).args)
 
   capture_law : (e : Cell) (args : List Cell) (left : Result) (F : List Frame) (x : Found) → Searches P e F x
       → (d : Deed) × Operates P m e args left F d (capture P (effect_params P e) e args left (with_frames F m) x)
@@ -360,6 +359,11 @@ returned_law v (f ∷ F) m = ap (λ (g : Frame). with_frames (g ∷ F) m) (by f)
     by (host n w s hs) = refl
     by (effect_callback e s hs) = refl
 
+-- What is known of the past: each continuation of the store comes from it, with at least one frame.
+pub record Known (past : List Deed) (s : List Object) : Type 0 where
+  pub known : (k : ℕ) (K : List Frame) → Stored s k K → From past k K
+  pub some : (k : ℕ) → From past k [] → ⊥
+
 -- A call. What is said of a throw is a premise, so that these laws stand or fall by themselves.
 module _ (P : Program) (past : List Deed) (m : M) (known : Known past m.store) (erring : ErrorLaw P m) (f : Cell)
     (args : List Cell) (kept F : List Frame) where
@@ -454,6 +458,19 @@ module _ (P : Program) where
 
   put_law : (new : List Cell) → PutIn P [] new (distinct P (length new) new)
   put_law new = put_all [] new (length new) (omega arith)
+
+-- ---- What these laws say of a machine, as one premise of the laws on opcodes and requests
+pub record Ruled (P : Program) (past : List Deed) (m : M) : Type 0 where
+  pub throwing : (x : Error) (F : List Frame)
+      → (d : Deed) × Operates P m (thrown x) (shown x ∷ []) (failed x) F d (throw_error 1 P x (with_frames F m))
+  pub erring : ErrorLaw P m
+  pub performing : (e : Cell) (args : List Cell) (F : List Frame)
+      → (d : Deed) × Performs P m e args F d (perform_effect P e args (with_frames F m))
+  pub calling : (f : Cell) (args : List Cell) (kept F : List Frame) → (function_of m.store f ≡ is_none → kept ≡ F)
+      → (d : Deed) × Calls P past m f args kept F d (call_function P (function_of m.store f) f args (with_frames F m))
+  pub no_call : (f : Cell) → callable (function_of m.store f) ≡ false → Callable m.store f → ⊥
+  pub returns_to : (v : Cell) (F : List Frame) → return_value v F (with_frames F m) ≡ returning v F m
+  pub putting : (new : List Cell) → PutIn P [] new (distinct P (length new) new)
 
 pub ruled : (P : Program) (past : List Deed) (m : M) → Known past m.store → Ruled P past m
 ruled P past m known = record {

@@ -13,7 +13,7 @@ use Rattle.image.specs.Image.{parse}
 use Rattle.image.proofs.Accepted.{refused_small}
 use Rattle.machine.specs.Values.{Program, code_of, type_of, code_params, is_effect, call_arguments, meta_un_operator}
 use Rattle.machine.specs.Machine.{Frame, lucia, host, effect_callback, Object, closure, list, continuation, M, with_frames, frames_cost, used, result_cost, Lookup, here, absent, object_at, check_args, wrong_count, Function, is_closure, is_callback, is_effect_callback, is_continuation, is_none, closure_function, continuation_function, function_of, put_back, resume, call_closure, call_function}
-use Rattle.machine.specs.Opcodes.{Action, calls, clears, doing, Taken}
+use Rattle.machine.specs.Opcodes.{refuses, Action, calls, clears, doing, Taken}
 use Rattle.machine.specs.Calls.{Sizes, top_handlers, handlers_left, judge, outcome, World, CallbackReturn, call_with, perform, tail_call, tail_perform, return_it, error_with, panic_with, Request, start, answer, clear, text, bytes, set_global, get_global, set_builtin, get_builtin, fit, answer_action, answered, idle, request_action, loaded_machine, load_of, program_of, load}
 use Rattle.machine.specs.StepLaws.{Fits}
 use Rattle.machine.proofs.StepLaws.{if_cases}
@@ -100,7 +100,7 @@ module _ (P : Program) (z : Sizes) (w : World) where
   -- An answer is refused with 11, 5, 16, 13, 14 or 15.
   pub answer_refusals : (word : ℕ) (fuel : Fuel) (r : CallbackReturn) → Refuses (answer word fuel r) (11 ∷ 5 ∷ 16 ∷ 13 ∷ 14 ∷ 15 ∷ [])
   unfolding request_action answered answer_action outcome
-  answer_refusals word fuel r = if_cases (λ (t : Taken). Only ns (outcome P z t w.machine)) w.wait _ _ (λ _. by w.machine.frames) (λ _. refl)
+  answer_refusals word fuel r = if_cases (λ (t : Taken). Only (11 ∷ 5 ∷ 16 ∷ 13 ∷ 14 ∷ 15 ∷ []) (outcome P z t w.machine)) w.wait (answered P w.machine.store word r w.machine.frames) (refuses 11) (λ _. by w.machine.frames) (λ _. refl)
     where
       ns : List ℕ
       ns = 11 ∷ 5 ∷ 16 ∷ 13 ∷ 14 ∷ 15 ∷ []

@@ -15,8 +15,8 @@ use Rattle.machine.specs.Opcodes.{Action, doing, Taken, takes, refuses, next_act
 use Rattle.machine.specs.Calls.{Sizes, handlers_left, Outcome, does, stops, judge, outcome, World, world, Trace, ends, nothing, steps_of, answer_of, given_of, world_after, Turn as Phase, is_done, is_host, is_ready, turn_of, Pace, free, counted, closing, failing, alone, pace_of, charge, goes_on, no_ticks, tick, run, CallbackReturn, call_with, perform, tail_call, tail_perform, return_it, error_with, panic_with, Request, start, answer, clear, text, bytes, set_global, get_global, set_builtin, get_builtin, fit, answer_action, answered, idle, request_action, request_world, end_of, asked, loaded_machine, loaded, load, Call, Lent, runs, asks, loads, load_trace, call_of, calls_of}
 use Rattle.machine.proofs.Store.{at_one, at_append, at_keeps, at_new}
 use Rattle.machine.specs.Demand.{Accepts, Deed, captures, sets, other, From, last_set, count_of, mark_of, Passed, Operates, handled, nobody, Performs, returning, Stored, Calls, begins, asks_host, as_effect, resumes, unfit, unfit_values, no_function, Ticks, stays, makes, registers, no_effect, sets_global, returns, throws, calls, tail_calls, performs, Replies, Asks, Run, Over, Awaits, Ends, done, spent, paused, awaits, Turn, InTurn, fresh, RefusedLoad, NoLoads, Demand3}
-use Rattle.machine.specs.DemandLaws.{Known}
-use Rattle.machine.specs.Kept.{TickLaw, AskLaw}
+use Rattle.machine.proofs.DemandLaws.{Known}
+use Rattle.machine.proofs.Kept.{TickLaw, AskLaw}
 use Rattle.machine.proofs.Kept.{tick_law, ask_law}
 use Rattle.machine.proofs.StepLaws.{if_cases, refusal_some, refusal_small, step_law, refused_step}
 use Rattle.machine.specs.RunLaws.{Ending, Ran}

@@ -1,23 +1,47 @@
 -- Row P9 by the rules of Demand: C, called by A, performs e, which A handles; its continuation is resumed with 5 and 7.
-use Rattle.std.specs.Prelude.{◌≡◌, refl, List, [], ◌∷◌, map, true, false, ℕ, zero, suc}
+use Rattle.std.specs.Prelude.{◌≡◌, refl, List, [], ◌∷◌, map, true, false, ℕ, zero, suc, ◌++◌, replicate}
 use Rattle.std.proofs.Common.{inl, inr, arith}
 use Rattle.cells.specs.declared.Cell.{Cell}
-use Rattle.image.specs.Records.{accepted}
-use Rattle.machine.specs.Values.{code_of, cell, bool, int, closure_at, continuation_at}
-use Rattle.machine.specs.Machine.{Handler, Frame, lucia, Object, closure, continuation, Result, returned, running}
-use Rattle.machine.specs.Machine.{M}
+use Rattle.image.specs.Records.{accepted, Answer, refused}
+use Rattle.machine.specs.Values.{code_of, cell, bool, int, closure_at, continuation_at, Program}
+use Rattle.machine.specs.Machine.{Handler, Frame, lucia, Object, closure, continuation, Result, returned, running, M}
 use Rattle.machine.specs.Opcodes.{Running}
-use Rattle.machine.specs.Calls.{Call, asks, clear, world, Step, steps_of, load, loaded, call_of}
-use Rattle.machine.specs.Seen.{handler, every_rule}
-use Rattle.machine.specs.Rows.{effect_of, starts, resumes as resume, runs_for, p9, p9frame, p9store}
-use Rattle.machine.specs.Demand.{Deed, other, From, Fits, Passed, Same, Captured, Ticks, Run, Turn}
-use Rattle.machine.specs.Demand.{stays, makes, registers, returns, calls, performs, begins, as_effect, resumes}
-use Rattle.machine.specs.Demand.{handled, done, InTurn, NoLoads}
-use Rattle.machine.specs.Worked.{z, P9, p9calls, until, p9deeds, at, p9final}
+use Rattle.machine.specs.Calls.{Call, asks, clear, world, Step, steps_of, load, loaded, call_of, Sizes, Lent, lent}
+use Rattle.machine.specs.Seen.{handler, every_rule, sizes}
+use Rattle.machine.proofs.Rows.{effect_of, starts, resumes as resume, runs_for, p9, p9frame, p9store}
+use Rattle.machine.specs.Demand.{Deed, other, From, Fits, Passed, Same, Captured, Ticks, Run, Turn, stays, makes, registers, returns, calls, performs, begins, as_effect, resumes, handled, done, InTurn, NoLoads, captures}
+use Rattle.cells.specs.Cells.{null}
+
+-- ---- The program, the calls, the deeds (the last is first) and the machine at the end
+abbrev z : Sizes
+z = sizes 4096 65536
+
+abbrev program_of : Answer Program → Program
+program_of (refused n) = record { image = []; codes = [] }
+program_of (accepted P) = P
+
+abbrev pub P9 : Program
+P9 = program_of (load p9.image z)
 
 pub p9_loads : load p9.image z ≡ accepted P9
 unfolding every_rule
 p9_loads = refl
+
+abbrev pub p9calls : List Lent
+p9calls = map (lent z) p9.calls
+
+-- The eleventh step is the perform, which captures C's frame: the deeds until n steps after it.
+abbrev until : ℕ → List Deed
+until n = replicate n other ++ captures 2 (p9frame [] ∷ []) ∷ replicate 10 other
+
+abbrev pub p9deeds : List Deed
+p9deeds = until 7
+
+abbrev at : List Frame → List Object → Result → M
+at F s r = record { frames = F; store = s; globals = replicate 256 null; builtins = replicate 256 null; result = r }
+
+abbrev pub p9final : M
+p9final = at [] p9store (returned (int 7))
 
 -- ---- The effect e as C names it; the handlers of A, for e, and C, for f; true; the continuation; the frame under C's
 abbrev e : Cell
@@ -79,14 +103,14 @@ data Path (now : List Deed) (end : M) : List Deed → M → Type 0 where
   tick : {past : List Deed} {m n : M} {d : Deed} → m.result ≡ running → Ticks P9 past m d n → Path now end (d ∷ past) n
       → Path now end past m
 
-led : {now past : List Deed} {m end : M} → Path now end past m → List (List M)
+led : {now : List Deed} {end : M} {past : List Deed} {m : M} → Path now end past m → List (List M)
 led there = []
 led (tick {m = m} {n = n} r t p) = (m ∷ n ∷ []) ∷ led p
 
 abbrev leads : List Step → List (List M)
 leads ss = map (λ (s : Step). s.before ∷ s.after ∷ []) ss
 
-walk : {now past : List Deed} {m end : M} (p : Path now end past m) (ss : List Step) → leads ss ≡ led p
+walk : {now : List Deed} {end : M} {past : List Deed} {m : M} (p : Path now end past m) (ss : List Step) → leads ss ≡ led p
     → Run P9 ss past m now end
 unfolding led
 walk there [] q = (refl, refl)

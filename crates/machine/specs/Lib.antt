@@ -5,8 +5,6 @@ pub mod Opcodes
 pub mod Calls
 -- Demand 3: the statement is Demand, the theorem the end of Theorem; `demands` has the same of the exported functions.
 pub mod Demand
-pub mod DemandLaws
-pub mod Kept
 -- Laws: of steps, of runs (ticks, pauses, endings), of slices and of one group; every machine reached is in form; the form that refusal 7 tests (Form) is closed under the rules (FormLaws); which refusals each step can give; what a step does not read.
 pub mod StepLaws
 pub mod RunLaws
@@ -24,6 +22,4 @@ pub mod RequestRefusals
 pub mod Local
 -- Rows that the checker computes: P1 to P12, and those that the oracle writes.
 pub mod Seen
-pub mod Rows
 -- One history worked by the rules of Demand: row P9.
-pub mod Worked
