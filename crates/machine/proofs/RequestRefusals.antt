@@ -120,7 +120,7 @@ module _ (P : Program) (z : Sizes) (w : World) where
       by : (F : List Frame) → Only ns (outcome P z (answered P w.machine.store word r F) w.machine)
       by [] = refl
       by (lucia c p l st hs ∷ below) = refl
-      by (host n v st hs ∷ below) = for _ hs below r
+      by (host n v st hs ∷ below) = for (λ (new : List Cell). host n word st new) hs below r
       by (effect_callback e st hs ∷ below) = refl
 
   -- A clear is not refused.
