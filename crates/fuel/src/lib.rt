@@ -14,6 +14,7 @@ pub struct Fuel {
     interrupted: bool,
 }
 
+#[tactic(auto, unfolding(crate::specs::Fuels::saturate, crate::specs::Fuels::most))]
 fn saturate(x: i64) -> i32
     ensures { result ≡ saturate x }
 {
@@ -38,6 +39,7 @@ fn saturating_neg(a: i32) -> i32
     saturate(-(a as i64))
 }
 
+#[tactic(auto, unfolding(crate::specs::Fuels::min))]
 fn min(a: i32, b: i32) -> i32
     ensures { result ≡ min a b }
 {
@@ -143,7 +145,7 @@ pub fn refill(fuel: &mut Fuel, x: i32, max: i32)
     *fuel = Fuel::refill(*fuel, x, max);
 }
 
-// Fuel that is lent for one charge: from the value to the form by `&mut` and back, so that its callers need no proof by hand.
+// Fuel that is lent for one charge: from the value to the form by `&mut` and back.
 pub fn charged(f: Fuel, cost: i32) -> Fuel
     ensures { result ≡ consume f cost }
 {
@@ -176,6 +178,7 @@ fn cast_unsigned(x: i32) -> u32
 }
 
 // Fuel as 5 bytes: the number, little-endian, then the mark.
+#[tactic(auto, using(crate::specs::LoanLaws::read_held, crate::specs::LoanLaws::read_other))]
 pub fn read(loan: &[u8]) -> Loan
     ensures { result ≡ read loan.now }
 {
@@ -188,6 +191,7 @@ pub fn read(loan: &[u8]) -> Loan
 }
 
 // The number is written and the mark byte left, since no call that charges fuel alters the mark. A loan of another length is left whole: `read` refuses it.
+#[tactic(auto, using(crate::specs::LoanLaws::write_held, crate::specs::LoanLaws::write_other))]
 pub fn write(loan: &mut [u8], fuel: Fuel)
     ensures { loan.new ≡ write loan.old fuel }
 {

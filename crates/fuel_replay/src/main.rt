@@ -5,6 +5,9 @@
 
 #![tactic(auto)]
 
+use std::io;
+use std::io::{Read, Write};
+
 fn operated(fuel: fuel::Fuel, operation: u8, x: i32, max: i32) -> fuel::Fuel {
     match operation {
         0 => fuel.adjust(x),
@@ -36,33 +39,36 @@ fn flags(fuel: fuel::Fuel) -> u8 {
     0
 }
 
-fn write(loan: &mut [u8], fuel: fuel::Fuel) {
+fn write(output: &mut impl Write, loan: &mut [u8], fuel: fuel::Fuel) -> io::Result<()> {
     fuel::write(loan, fuel);
-    io::write_all(1, loan);
-    io::write_all(1, &[flags(fuel)]);
+    output.write_all(loan)?;
+    output.write_all(&[flags(fuel)])
 }
 
 // One row; false at the end of the input.
-fn row() -> bool {
+fn row(input: &mut impl Read, output: &mut impl Write) -> io::Result<bool> {
     let mut asked = [0u8; 16];
-    if io::read_full(0, &mut asked) != 16 {
-        return false;
+    if input.read_exact(&mut asked).is_err() {
+        return Ok(false);
     }
     let x = number(&asked[5..10]);
     let max = number(&asked[10..15]);
     match fuel::read(&asked[0..5]) {
         fuel::Loan::Held(before) => {
             let after = operated(before, asked[15], x, max);
-            write(&mut asked[0..5], after);
-            true
+            write(output, &mut asked[0..5], after)?;
+            Ok(true)
         }
-        fuel::Loan::Refused(_) => false,
+        fuel::Loan::Refused(_) => Ok(false),
     }
 }
 
-fn main() {
+fn main(rt: HostRuntime) -> io::Result<()> {
+    let mut input = rt.stdin();
+    let mut output = rt.stdout();
     let mut rows: u32 = 1000000;
-    while rows > 0 && row() {
+    while rows > 0 && row(&mut input, &mut output)? {
         rows -= 1;
     }
+    Ok(())
 }

@@ -5,6 +5,9 @@
 
 #![tactic(auto)]
 
+use std::io;
+use std::io::{Read, Write};
+
 #[derive(Clone, Copy)]
 struct Answer {
     kind: u8,
@@ -45,10 +48,10 @@ fn operated(opcode: u8, a: u64, b: u64) -> Answer {
 }
 
 // One row; false at the end of the input.
-fn row() -> bool {
+fn row(input: &mut impl Read, output: &mut impl Write) -> io::Result<bool> {
     let mut asked = [0u8; 17];
-    if io::read_full(0, &mut asked) != 17 {
-        return false;
+    if input.read_exact(&mut asked).is_err() {
+        return Ok(false);
     }
     let a = cells::read64(&asked, 1);
     let b = cells::read64(&asked, 9);
@@ -56,13 +59,16 @@ fn row() -> bool {
     let mut written = [0u8; 9];
     written[0] = answer.kind;
     cells::write64(&mut written, 1, answer.number);
-    io::write_all(1, &written);
-    true
+    output.write_all(&written)?;
+    Ok(true)
 }
 
-fn main() {
+fn main(rt: HostRuntime) -> io::Result<()> {
+    let mut input = rt.stdin();
+    let mut output = rt.stdout();
     let mut rows: u32 = 1000000;
-    while rows > 0 && row() {
+    while rows > 0 && row(&mut input, &mut output)? {
         rows -= 1;
     }
+    Ok(())
 }
