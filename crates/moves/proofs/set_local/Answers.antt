@@ -1,0 +1,7 @@
+-- `moves::set_local` meets its contract. Assumes nothing.
+use Rattle.moves.specs.Runs.{sets_local}
+use borrow.Author.Rules.{rules}
+use Rattle.moves.proofs.set_local.Goals as goal
+
+pub returns : goal.returns
+returns c = search sets_local

@@ -1,0 +1,38 @@
+-- `scan::values_fit` meets its contract. Assumes nothing.
+use native.Mathlib.Omega.{arith}
+use borrow.Author.Rules.{rules}
+use mathlib.Core.Path.{refl}
+use mathlib.Core.Logic.{⊎_elim}
+use Prim.Native.Nat.{◌-◌}
+use Rattle.cells.specs.Cells.{cells}
+use Rattle.memory.specs.Tests.{value_fits}
+use Rattle.scan.specs.Tables.{program_in}
+use Rattle.scan.specs.Values.{told, plain_fits}
+use Rattle.scan.specs.Passed.{Passed, passed_none, passed_not, passed_more, passed_all}
+use Rattle.scan.proofs.values_fit.Goals as goal
+
+pub loop-i-init : goal.loop-i-init
+loop-i-init c = passed_none _ _ _ _
+
+pub overflow_add-from : goal.overflow_add-from
+overflow_add-from c = omega arith
+
+pub get-v-requires : goal.get-v-requires
+get-v-requires c = omega arith
+
+pub returns-then-not-value_fits : goal.returns-then-not-value_fits
+returns-then-not-value_fits c = search passed_not
+
+pub overflow_add-i : goal.overflow_add-i
+overflow_add-i c = omega arith
+
+pub loop-i-smaller : goal.loop-i-smaller
+loop-i-smaller c = omega arith
+
+pub loop-i-preserved : goal.loop-i-preserved
+loop-i-preserved c = passed_more c.loop-i.invariant (search rules) (search rules) c.get-v.ensures
+    (⊎_elim (λ w. told _ _ _ _ w.1.ensures w.2.left) (λ w. plain_fits _ _ _ _ c.is_plain.ensures w.left) c.if-not-is_plain.branch)
+    refl
+
+pub returns : goal.returns
+returns c = search passed_all

@@ -1,0 +1,7 @@
+-- `states::set_turn` meets its contract. Assumes nothing.
+use Rattle.states.specs.Worlds.{turn_set}
+use borrow.Author.Rules.{rules}
+use Rattle.states.proofs.set_turn.Goals as goal
+
+pub returns : goal.returns
+returns c = search turn_set
