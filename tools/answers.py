@@ -79,6 +79,7 @@ def unbefore(text):
 
 def step_path(names, every, rows):
     """The path of a step's fact by today's names; names are the fields behind `c`."""
+    names = [{"well-formed": "well_formed"}.get(n.strip("«»"), n.strip("«»")) for n in names]
     first = names[0]
     for old in (first, first.replace("-", "_")):
         best = None

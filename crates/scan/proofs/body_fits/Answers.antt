@@ -44,10 +44,10 @@ pub returns-then-not-handlers_fit : goal.returns-then-not-handlers_fit
 returns-then-not-handlers_fit c = λ m. let a = c.args in body_handlers a.x.now a.at c.number-locals.ensures c.payload-handlers.ensures c.payload-stack.ensures _ _ _ m c.values_fit.ensures (ap not c.if-not-values_fit.false) c.handlers_fit.ensures (ap not c.if-not-handlers_fit.true)
 
 pub overflow_mul-handlers : goal.overflow_mul-handlers
-overflow_mul-handlers c = let a = c.args in search (rules, body_inside a.x.now a.at c.number-locals.ensures c.payload-handlers.ensures c.payload-stack.ensures c.requires.1, c.well-formed.1.1.1.1.1.1.1.0)
+overflow_mul-handlers c = let a = c.args in search (rules, body_inside a.x.now a.at c.number-locals.ensures c.payload-handlers.ensures c.payload-stack.ensures c.requires.1, c.well_formed.1.1.1.1.1.1.1.0)
 
 pub overflow_add-from-3 : goal.overflow_add-from-3
-overflow_add-from-3 c = let a = c.args in search (rules, body_inside a.x.now a.at c.number-locals.ensures c.payload-handlers.ensures c.payload-stack.ensures c.requires.1, c.well-formed.1.1.1.1.1.1.1.0)
+overflow_add-from-3 c = let a = c.args in search (rules, body_inside a.x.now a.at c.number-locals.ensures c.payload-handlers.ensures c.payload-stack.ensures c.requires.1, c.well_formed.1.1.1.1.1.1.1.0)
 
 pub values_fit-requires-2 : goal.values_fit-requires-2
 values_fit-requires-2 c = let a = c.args in (c.requires.0, omega (arith, body_inside a.x.now a.at c.number-locals.ensures c.payload-handlers.ensures c.payload-stack.ensures c.requires.1))

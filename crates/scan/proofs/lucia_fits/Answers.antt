@@ -39,7 +39,7 @@ pub field-opcodes-requires : goal.field-opcodes-requires
 field-opcodes-requires c = omega arith
 
 pub overflow_add-at-2 : goal.overflow_add-at-2
-overflow_add-at-2 c = search (rules, c.well-formed.1.1.1.1.1.1.1.0)
+overflow_add-at-2 c = search (rules, c.well_formed.1.1.1.1.1.1.1.0)
 
 pub number-requires : goal.number-requires
 number-requires c = omega arith

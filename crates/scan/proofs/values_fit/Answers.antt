@@ -10,6 +10,7 @@ use Rattle.scan.specs.Tables.{program_in}
 use Rattle.scan.specs.Values.{told, plain_fits}
 use Rattle.scan.specs.Passed.{Passed, passed_none, passed_not, passed_more, passed_all}
 use Rattle.scan.proofs.values_fit.Goals as goal
+use Rattle.scan.proofs.values_fit.Goals.{then-not-is_plain+else-not-value_fits, else-not-is_plain}
 
 pub loop-i-init : goal.loop-i-init
 loop-i-init c = passed_none _ _ _ _
@@ -31,7 +32,7 @@ loop-i-smaller c = omega arith
 
 pub loop-i-preserved : goal.loop-i-preserved
 loop-i-preserved c = passed_more c.loop-i.invariant (search rules) (search rules) c.get-v.ensures
-    (⊎_elim (λ w. told _ _ _ _ w.1.ensures w.2.left) (λ w. plain_fits _ _ _ _ c.is_plain.ensures w.left) c.if-not-is_plain.branch)
+    (elim c.if-not-is_plain.branch [ then-not-is_plain+else-not-value_fits w ↦ ? | else-not-is_plain w ↦ ? ])
     refl
 
 pub returns : goal.returns
