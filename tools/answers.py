@@ -28,7 +28,7 @@ def blocks(text):
     """The declarations: lists of lines that begin at the margin."""
     out = []
     for l in text.split("\n"):
-        if l and not l[0].isspace() and not (out and l.startswith("unfolding ")):
+        if l and not l[0].isspace() and not (out and l.startswith(("unfolding ", ")", "]", "}"))):
             out.append([l])
         elif out:
             out[-1].append(l)
