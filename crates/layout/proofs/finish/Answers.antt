@@ -1,9 +1,7 @@
 -- `layout::finish` meets its contract. The loop carries `Copying`. Assumes nothing.
 use native.Mathlib.Omega.{arith}
-use Prim.Native.Nat.{◌-◌}
 use lib.ListN.{length-set}
-use Rattle.layout.specs.Reads.{Copying, copying_first, copying_next, copying_ends}
-use borrow.Author.Rules.{rules}
+use Rattle.layout.specs.Reads.{copying_first, copying_next, copying_ends}
 use Rattle.layout.proofs.finish.Goals as goal
 
 pub loop-i-init : goal.loop-i-init

@@ -1,9 +1,6 @@
 -- `layout::finish` meets its contract. The loop carries `Copying`. Assumes nothing.
-use native.Mathlib.Omega.{arith}
 use Prim.Native.Nat.{◌-◌}
-use lib.ListN.{length-set}
-use Rattle.layout.specs.Reads.{Copying, copying_first, copying_next, copying_ends}
-use borrow.Author.Rules.{rules}
+use Rattle.layout.specs.Reads.{Copying}
 use Rattle.layout.proofs.finish.Given as goal
 
 abbrev pub invariant-loop-i : goal.invariant-loop-i

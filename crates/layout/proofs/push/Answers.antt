@@ -1,7 +1,6 @@
 -- `layout::push` meets its contract. Assumes nothing.
 use native.Mathlib.Omega.{arith}
 use Rattle.layout.specs.Tables.{pushed}
-use borrow.Author.Rules.{rules}
 use Rattle.layout.proofs.push.Goals as goal
 
 pub offset_bounds-table-n : goal.offset_bounds-table-n

@@ -1,9 +1,7 @@
 -- `layout::read_constants` meets its contract. The loop carries `Listing`: what is left of the constants is the whole. Assumes nothing.
-use native.Mathlib.Omega.{arith}
 use Prim.Native.Nat.{◌-◌}
 use lib.ListN.{length}
-use Rattle.layout.specs.ImageLaws.{constant_of}
-use Rattle.layout.specs.Tables.{Listing, listing_first, listing_ends, listing_broken, listing_next}
+use Rattle.layout.specs.Tables.{Listing}
 use Rattle.layout.proofs.read_constants.Given as goal
 
 abbrev pub invariant-loop-at : goal.invariant-loop-at
