@@ -1,0 +1,32 @@
+-- `handlers::search` meets its contract. Assumes nothing.
+use borrow.Author.Rules.{rules}
+use Prim.Native.Nat.{◌-◌}
+use native.Mathlib.Omega.{arith}
+use Rattle.cells.specs.Cells.{cells}
+use Rattle.scan.specs.Tables.{program_in}
+use Rattle.handlers.specs.Stacks.{Left, search_none, left_first, left_fits, left_room, left_in, left_next, left_none}
+use Rattle.handlers.proofs.search.Goals as goal
+
+pub returns-then-frames-eq0 : goal.returns-then-frames-eq0
+returns-then-frames-eq0 c = search search_none
+
+pub loop-i-init : goal.loop-i-init
+loop-i-init c = search left_first
+
+pub overflow_cast-starts : goal.overflow_cast-starts
+overflow_cast-starts c = omega (arith, c.shared_slice_known-in-loop-i-1.given (c.loop-i.i - 1))
+
+pub open-g-requires : goal.open-g-requires
+open-g-requires c = search left_fits
+
+pub find_handler-j-requires : goal.find_handler-j-requires
+find_handler-j-requires c = search left_room
+
+pub returns-then-j-g : goal.returns-then-j-g
+returns-then-j-g c = search left_in
+
+pub loop-i-preserved : goal.loop-i-preserved
+loop-i-preserved c = search left_next
+
+pub returns : goal.returns
+returns c = search left_none
