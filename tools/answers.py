@@ -79,9 +79,9 @@ def unbefore(text):
 
 def step_path(names, every, rows):
     """The path of a step's fact by today's names; names are the fields behind `c`."""
-    names = [{"well-formed": "well_formed"}.get(n.strip("«»"), n.strip("«»")) for n in names]
+    names = [{"well-formed": "well_formed", "type-inv": "type_inv"}.get(n.strip("«»"), n.strip("«»")) for n in names]
     first = names[0]
-    for old in (first, first.replace("-", "_")):
+    for old in (first, first.replace("-", "_"), first.removesuffix("_lem")):
         best = None
         for (field, path), new in rows.items():
             if field == old and list(path) == names[1:1 + len(path)] and (best is None or len(path) > len(best[0])):
@@ -113,7 +113,7 @@ def turn_paths(text, every, rows):
             return f"(ap not {path})"
         return path
 
-    return re.sub(r"(?<![^\s(){};,])([^\s(){}.;,@\"«»]+)((?:\.[^\s(){}.;,@\"«»]+)+)", turn, text)
+    return re.sub(r"(?<![^\s(){};,])([^\s(){}.;,@\"«»]+)((?:\.(?:[^\s(){}.;,@\"«»]+|«[^«»]+»))+)", turn, text)
 
 
 def search_alone(body):

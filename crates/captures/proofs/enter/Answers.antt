@@ -1,0 +1,16 @@
+-- `captures::enter` meets its contract: the tag of the frame tells which of the two it is. Assumes nothing.
+use Rattle.captures.specs.EnteredLaws.{enter_lucia, enter_callback, enters_lucia, enters_callback}
+use borrow.Author.Rules.{rules}
+use Rattle.captures.proofs.enter.Goals as goal
+
+pub enter_lucia-requires : goal.enter_lucia-requires
+enter_lucia-requires c = enter_lucia c.tag.ensures c.if-tag-eq64.true c.requires
+
+pub enter_callback-requires : goal.enter_callback-requires
+enter_callback-requires c = enter_callback c.tag.ensures c.if-tag-eq64.false c.requires
+
+pub returns-then-tag-eq64 : goal.returns-then-tag-eq64
+returns-then-tag-eq64 c = enters_lucia c.tag.ensures c.if-tag-eq64.true c.enter_lucia.ensures
+
+pub returns-else-tag-eq64 : goal.returns-else-tag-eq64
+returns-else-tag-eq64 c = enters_callback c.tag.ensures c.if-tag-eq64.false c.enter_callback.ensures
