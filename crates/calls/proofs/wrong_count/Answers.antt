@@ -3,6 +3,7 @@ use mathlib.Core.Logic.{inl, inr, ⊎_elim}
 use borrow.Author.Rules.{rules}
 use Rattle.calls.specs.Performing.{wrong_shown}
 use Rattle.calls.proofs.wrong_count.Goals as goal
+use Rattle.calls.proofs.wrong_count.Goals.{then-p, else-p}
 
 pub returns : goal.returns
-returns c = wrong_shown _ _ (⊎_elim (λ w. inl (w.0.taken, w.1)) (λ w. inr (w.0.left, w.1)) c.if-p.branch)
+returns c = wrong_shown _ _ (elim c.if-p.branch [ then-p w ↦ inl ? | else-p w ↦ inr ? ])
