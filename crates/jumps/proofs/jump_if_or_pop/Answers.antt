@@ -1,0 +1,16 @@
+-- `jumps::jump_if_or_pop` meets its contract. Assumes nothing.
+use borrow.Author.Rules.{rules}
+use Rattle.jumps.specs.Jumps.{or_pop_stops, or_pop_throws, or_pop_jumps, or_pop_goes}
+use Rattle.jumps.proofs.jump_if_or_pop.Goals as goal
+
+pub returns-then-g-eq0 : goal.returns-then-g-eq0
+returns-then-g-eq0 c = search or_pop_stops
+
+pub returns-then-v-ne1 : goal.returns-then-v-ne1
+returns-then-v-ne1 c = search or_pop_throws
+
+pub returns-then-v-op : goal.returns-then-v-op
+returns-then-v-op c = search or_pop_jumps
+
+pub returns : goal.returns
+returns c = search or_pop_goes

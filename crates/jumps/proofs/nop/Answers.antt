@@ -1,0 +1,6 @@
+-- `jumps::nop` meets its contract. Assumes nothing.
+use Rattle.jumps.specs.Jumps.{nop_goes}
+use Rattle.jumps.proofs.nop.Goals as goal
+
+pub returns : goal.returns
+returns c = search nop_goes

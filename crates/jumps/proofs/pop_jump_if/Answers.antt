@@ -1,0 +1,16 @@
+-- `jumps::pop_jump_if` meets its contract. Assumes nothing.
+use borrow.Author.Rules.{rules}
+use Rattle.jumps.specs.Jumps.{pop_stops, pop_throws, pop_jumps, pop_goes}
+use Rattle.jumps.proofs.pop_jump_if.Goals as goal
+
+pub returns-then-g-eq0 : goal.returns-then-g-eq0
+returns-then-g-eq0 c = search pop_stops
+
+pub returns-then-v-ne1 : goal.returns-then-v-ne1
+returns-then-v-ne1 c = search pop_throws
+
+pub returns-then-v-op : goal.returns-then-v-op
+returns-then-v-op c = search pop_jumps
+
+pub returns : goal.returns
+returns c = search pop_goes

@@ -1,0 +1,31 @@
+-- `readings::line_of` meets its contract: the loop keeps `Seeking`. Assumes nothing.
+use native.Mathlib.Omega.{arith}
+use Prim.Native.Nat.{◌-◌}
+use mathlib.Core.Logic.{⊎_elim}
+use lib.ListN.{length}
+use Rattle.readings.specs.Lines.{Seeking, seeking_first, seeking_line, seeking_byte, line_found, line_missing}
+use Rattle.readings.proofs.line_of.Goals as goal
+
+pub loop-i-init : goal.loop-i-init
+loop-i-init c = seeking_first _ _
+
+pub returns-then-left-eq0 : goal.returns-then-left-eq0
+returns-then-left-eq0 c = search line_found
+
+pub overflow_sub-left : goal.overflow_sub-left
+overflow_sub-left c = omega arith
+
+pub overflow_add-start : goal.overflow_add-start
+overflow_add-start c = omega arith
+
+pub overflow_add-i : goal.overflow_add-i
+overflow_add-i c = omega arith
+
+pub loop-i-smaller : goal.loop-i-smaller
+loop-i-smaller c = omega arith
+
+pub loop-i-preserved : goal.loop-i-preserved
+loop-i-preserved c = ⊎_elim (λ w. search seeking_line) (λ w. search seeking_byte) c.if-page-i-eq10.branch
+
+pub returns : goal.returns
+returns c = search line_missing
