@@ -5,6 +5,7 @@ use mathlib.Core.Logic.{⊎_elim}
 use lib.ListN.{length}
 use Rattle.readings.specs.Lines.{Seeking, seeking_first, seeking_line, seeking_byte, line_found, line_missing}
 use Rattle.readings.proofs.line_of.Goals as goal
+use Rattle.readings.proofs.line_of.Goals.{then-page-i-eq10+else-left-eq0, else-page-i-eq10}
 
 pub loop-i-init : goal.loop-i-init
 loop-i-init c = seeking_first _ _
@@ -25,7 +26,7 @@ pub loop-i-smaller : goal.loop-i-smaller
 loop-i-smaller c = omega arith
 
 pub loop-i-preserved : goal.loop-i-preserved
-loop-i-preserved c = ⊎_elim (λ w. search seeking_line) (λ w. search seeking_byte) c.if-page-i-eq10.branch
+loop-i-preserved c = elim c.if-page-i-eq10.branch [ then-page-i-eq10+else-left-eq0 w ↦ search seeking_line | else-page-i-eq10 w ↦ search seeking_byte ]
 
 pub returns : goal.returns
 returns c = search line_missing

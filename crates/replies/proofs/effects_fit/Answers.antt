@@ -1,0 +1,30 @@
+-- `replies::effects_fit` meets its contract. Assumes nothing.
+use native.Mathlib.Omega.{arith}
+use Prim.Native.Nat.{◌-◌}
+use Rattle.cells.specs.Cells.{cells}
+use Rattle.memory.specs.Tests.{effect_fits}
+use Rattle.scan.specs.Tables.{program_in}
+use Rattle.scan.specs.Passed.{Passed, passed_none}
+use Rattle.replies.specs.FitLaws.{cells_not, cells_more, cells_all}
+use Rattle.replies.proofs.effects_fit.Goals as goal
+
+pub loop-i-init : goal.loop-i-init
+loop-i-init c = passed_none _ _ _ _
+
+pub get-e-requires : goal.get-e-requires
+get-e-requires c = omega arith
+
+pub returns-then-not-effect_fits : goal.returns-then-not-effect_fits
+returns-then-not-effect_fits c = search cells_not
+
+pub overflow_add-i : goal.overflow_add-i
+overflow_add-i c = omega arith
+
+pub loop-i-smaller : goal.loop-i-smaller
+loop-i-smaller c = omega arith
+
+pub loop-i-preserved : goal.loop-i-preserved
+loop-i-preserved c = search cells_more
+
+pub returns : goal.returns
+returns c = search cells_all

@@ -1,0 +1,15 @@
+-- `replies::effects_fit` meets its contract. Assumes nothing.
+use native.Mathlib.Omega.{arith}
+use Prim.Native.Nat.{◌-◌}
+use Rattle.cells.specs.Cells.{cells}
+use Rattle.memory.specs.Tests.{effect_fits}
+use Rattle.scan.specs.Tables.{program_in}
+use Rattle.scan.specs.Passed.{Passed, passed_none}
+use Rattle.replies.specs.FitLaws.{cells_not, cells_more, cells_all}
+use Rattle.replies.proofs.effects_fit.Given as goal
+
+abbrev pub invariant-loop-i : goal.invariant-loop-i
+invariant-loop-i l = Passed (effect_fits (program_in l.image l.rows l.constants l.inner l.codes) (cells l.store) l.used) l.x 0 l.n l.i
+
+abbrev pub decreases-loop-i : goal.decreases-loop-i
+decreases-loop-i l = l.n - l.i

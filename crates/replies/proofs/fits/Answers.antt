@@ -1,0 +1,29 @@
+-- `replies::fits` meets its contract. Assumes nothing.
+use native.Mathlib.Omega.{arith}
+use mathlib.Core.Path.{sym, ap, ◌∙◌}
+use mathlib.Core.Logic.{inl, inr, ⊎_elim}
+use Rattle.replies.specs.FitLaws.{fits_call, fits_tail, fits_perform, fits_value}
+use Rattle.replies.specs.declared.CallbackReturn.TheVariants.{Perform, TailPerform, ReturnValue, Error, Panic}
+use Rattle.replies.proofs.fits.Goals as goal
+
+pub called_fits-requires : goal.called_fits-requires
+called_fits-requires c = omega arith
+
+pub returns-in-Call : goal.returns-in-Call
+returns-in-Call c = search fits_call
+
+pub returns-in-TailCall : goal.returns-in-TailCall
+returns-in-TailCall c = search fits_tail
+
+pub returns-in-ReturnValue : goal.returns-in-ReturnValue
+returns-in-ReturnValue c = fits_value
+    (⊎_elim (λ w. inl (w.1.given.1 ∙ ap ReturnValue (sym w.3)))
+    (⊎_elim (λ w. inr (inl (w.1.given.1 ∙ ap Error (sym w.3))))
+    (λ w. inr (inr (w.1.given.1 ∙ ap Panic (sym w.3)))))
+    c.in-ReturnValue.match-r-branch) c.value_fits.ensures
+
+pub returns-in-Perform : goal.returns-in-Perform
+returns-in-Perform c = fits_perform
+    (⊎_elim (λ w. inl (w.1.given.1 ∙ ap Perform (sym w.3)))
+    (λ w. inr (w.1.given.1 ∙ ap TailPerform (sym w.3)))
+    c.in-Perform.match-r-branch) c.perform_fits.ensures

@@ -1,0 +1,40 @@
+-- `replies::plan_of` meets its contract. Assumes nothing.
+use mathlib.Core.Path.{sym, ap, ◌∙◌}
+use mathlib.Core.Logic.{inl, inr, ⊎_elim}
+use Rattle.replies.specs.PlanLaws.{lies, callable, plans_call, plans_return, plans_error, plans_panic, plans_perform}
+use Rattle.replies.specs.declared.CallbackReturn.TheVariants.{Call, TailCall, Perform, TailPerform}
+use Rattle.replies.proofs.plan_of.Goals as goal
+
+pub throw_error-requires : goal.throw_error-requires
+throw_error-requires c = search lies
+
+pub throw_error-requires-in-Panic : goal.throw_error-requires-in-Panic
+throw_error-requires-in-Panic c = search lies
+
+pub perform_effect_with-requires : goal.perform_effect_with-requires
+perform_effect_with-requires c = search lies
+
+pub call_function-requires : goal.call_function-requires
+call_function-requires c = callable c.requires
+    (⊎_elim (λ w. inl (w.1.given.1 ∙ ap Call (sym w.3))) (λ w. inr (w.1.given.1 ∙ ap TailCall (sym w.3)))
+    c.in-Call.match-r-branch)
+
+pub returns-in-ReturnValue : goal.returns-in-ReturnValue
+returns-in-ReturnValue c = search plans_return
+
+pub returns-in-Error : goal.returns-in-Error
+returns-in-Error c = search plans_error
+
+pub returns-in-Panic : goal.returns-in-Panic
+returns-in-Panic c = search plans_panic
+
+pub returns-in-Perform : goal.returns-in-Perform
+returns-in-Perform c = plans_perform _
+    (⊎_elim (λ w. inl (w.1.given.1 ∙ ap Perform (sym w.3)))
+    (λ w. inr (w.1.given.1 ∙ ap TailPerform (sym w.3)))
+    c.in-Perform.match-r-branch) c.room.ensures c.perform_effect_with.ensures
+
+pub returns-in-Call : goal.returns-in-Call
+returns-in-Call c = plans_call
+    (⊎_elim (λ w. inl (w.1.given.1 ∙ ap Call (sym w.3))) (λ w. inr (w.1.given.1 ∙ ap TailCall (sym w.3)))
+    c.in-Call.match-r-branch) c.call_function.ensures
