@@ -1,0 +1,11 @@
+-- `slices::run_quick` meets its contract: the invariant is that of `run_slice`, with state block and store as they were; the measure is the ticks left. Assumes nothing.
+use borrow.Author.Rules.{rules}
+use native.Mathlib.Omega.{arith}
+use Rattle.slices.specs.Looping.{code_low, Looping, looping_first, opcode_from, place_low, step_ready, loops_goes, loops_jumps, quickens, quickens_other}
+use Rattle.slices.proofs.run_quick.Given as goal
+
+abbrev pub invariant-loop-ticks : goal.invariant-loop-ticks
+invariant-loop-ticks l = Looping l.image l.rows l.constants l.inner l.codes l.initial.g l.handle l.code l.used l.begun l.given l.state l.initial.live l.store l.g l.used l.left l.ticks l.state l.live l.store
+
+abbrev pub decreases-loop-ticks : goal.decreases-loop-ticks
+decreases-loop-ticks l = l.ticks
