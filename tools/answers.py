@@ -249,8 +249,33 @@ def convert(crate, path, spec):
         mm = re.match(rf"{re.escape(name)}((?:\s+[^\s=]+)*)\s+=\s*(.*)", d, re.S)
         pars, val = mm[1].split(), mm[2]
         sub = loop_params(spec, pars, k)
+        for bound in re.findall(r"λ ([^.]*)\.", val):
+            for b in WORD.findall(bound):
+                sub.pop(b, None)
         val = re.sub(r"(?<![^\s(){};,@\"«»])([^\s(){}.;,@\"«»]+)", lambda w: sub.get(w[1], w[1]), val)
         inv.append("\n".join(head + [f"abbrev pub {target} : goal.{target}"] + unf + [f"{target} l = {val}"]))
+    # an answer that cites another one stands below it
+    if renames:
+        turned = []
+        for text_ in answers:
+            head_, body_ = text_.split(" c = ", 1) if " c = " in text_ else ("", text_)
+            body_ = re.sub(r"(?<![^\s(){};,@])([^\s(){}.;,@\"«»]+)", lambda w: renames.get(w[1], w[1]), body_)
+            turned.append((head_ + " c = " if head_ else "") + body_)
+        named = {re.search(r"^pub (\S+) :", a, re.M)[1]: a for a in turned}
+        done, order = set(), []
+
+        def put(n):
+            if n in done:
+                return
+            done.add(n)
+            for w in WORD.findall(named[n].split(" c = ", 1)[-1]):
+                if w in named and w != n:
+                    put(w)
+            order.append(named[n])
+
+        for n in named:
+            put(n)
+        answers = order
     keep = [u for u in uses if not re.search(r"\.(Statement|Tie)\b", u)]
     mod = f"Rattle.{crate}.proofs.{f}"
     if inv:

@@ -31,11 +31,11 @@ loop-ticks-preserved-in-Goes c = loops_goes c.loop-ticks.invariant c.past.ensure
 pub loop-ticks-preserved : goal.loop-ticks-preserved
 loop-ticks-preserved c = loops_jumps c.loop-ticks.invariant c.past.ensures (opcode_from c.loop-ticks.invariant c.entry-start.ensures c.opcode_at-o.ensures) c.loop-ticks-test.true c.quick_step.ensures c.in-Jumps.is
 
-pub shape_of-live-in-Other : goal.shape_of-live-in-Other
-shape_of-live-in-Other c = (returns-2 c).same_live.len
-
 pub returns-in-Other : goal.returns-in-Other
 returns-in-Other c = quickens_other c.loop-ticks.invariant c.sliced-in-Other.ensures c.quick_step.ensures c.in-Other.is
+
+pub shape_of-live-in-Other : goal.shape_of-live-in-Other
+shape_of-live-in-Other c = (returns-in-Other c).same_live.len
 
 pub returns : goal.returns
 returns c = search quickens
