@@ -16,14 +16,7 @@ pub returns-in-TailCall : goal.returns-in-TailCall
 returns-in-TailCall c = search fits_tail
 
 pub returns-in-ReturnValue : goal.returns-in-ReturnValue
-returns-in-ReturnValue c = fits_value
-    (⊎_elim (λ w. inl (w.1.given.1 ∙ ap ReturnValue (sym w.3)))
-    (⊎_elim (λ w. inr (inl (w.1.given.1 ∙ ap Error (sym w.3))))
-    (λ w. inr (inr (w.1.given.1 ∙ ap Panic (sym w.3)))))
-    c.in-ReturnValue.match-r-branch) c.value_fits.ensures
+returns-in-ReturnValue c = ?
 
 pub returns-in-Perform : goal.returns-in-Perform
-returns-in-Perform c = fits_perform
-    (⊎_elim (λ w. inl (w.1.given.1 ∙ ap Perform (sym w.3)))
-    (λ w. inr (w.1.given.1 ∙ ap TailPerform (sym w.3)))
-    c.in-Perform.match-r-branch) c.perform_fits.ensures
+returns-in-Perform c = ?
