@@ -16,7 +16,7 @@ pub returns-in-TailCall : goal.returns-in-TailCall
 returns-in-TailCall c = search fits_tail
 
 pub returns-in-ReturnValue : goal.returns-in-ReturnValue
-returns-in-ReturnValue c = ?
+returns-in-ReturnValue c = fits_value c.in-ReturnValue.is c.value_fits.ensures
 
 pub returns-in-Perform : goal.returns-in-Perform
-returns-in-Perform c = ?
+returns-in-Perform c = fits_perform c.in-Perform.is c.perform_fits.ensures

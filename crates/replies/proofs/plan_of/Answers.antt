@@ -15,9 +15,7 @@ pub perform_effect_with-requires : goal.perform_effect_with-requires
 perform_effect_with-requires c = search lies
 
 pub call_function-requires : goal.call_function-requires
-call_function-requires c = callable c.requires
-    (⊎_elim (λ w. inl (w.1.given.1 ∙ ap Call (sym w.3))) (λ w. inr (w.1.given.1 ∙ ap TailCall (sym w.3)))
-    c.in-Call.match-r-branch)
+call_function-requires c = callable c.requires c.in-Call.is
 
 pub returns-in-ReturnValue : goal.returns-in-ReturnValue
 returns-in-ReturnValue c = search plans_return
@@ -29,12 +27,7 @@ pub returns-in-Panic : goal.returns-in-Panic
 returns-in-Panic c = search plans_panic
 
 pub returns-in-Perform : goal.returns-in-Perform
-returns-in-Perform c = plans_perform _
-    (⊎_elim (λ w. inl (w.1.given.1 ∙ ap Perform (sym w.3)))
-    (λ w. inr (w.1.given.1 ∙ ap TailPerform (sym w.3)))
-    c.in-Perform.match-r-branch) c.room.ensures c.perform_effect_with.ensures
+returns-in-Perform c = plans_perform _ c.in-Perform.is c.room.ensures c.perform_effect_with.ensures
 
 pub returns-in-Call : goal.returns-in-Call
-returns-in-Call c = plans_call
-    (⊎_elim (λ w. inl (w.1.given.1 ∙ ap Call (sym w.3))) (λ w. inr (w.1.given.1 ∙ ap TailCall (sym w.3)))
-    c.in-Call.match-r-branch) c.call_function.ensures
+returns-in-Call c = plans_call c.in-Call.is c.call_function.ensures
