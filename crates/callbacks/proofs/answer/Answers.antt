@@ -1,0 +1,22 @@
+-- `callbacks::answer` meets its contract. Assumes nothing.
+use Rattle.callbacks.specs.AnswerLaws.{used_fits, answer_early, answer_malformed, answer_unfit, answer_replyable, answer_replied}
+use Rattle.std.proofs.Common.{ap, not}
+use Rattle.callbacks.proofs.answer.Goals as goal
+
+pub returns-then-waits-eq0 : goal.returns-then-waits-eq0
+returns-then-waits-eq0 c = search answer_early
+
+pub fits-requires : goal.fits-requires
+fits-requires c = used_fits c.requires c.used-used.ensures
+
+pub returns-then-not-fits : goal.returns-then-not-fits
+returns-then-not-fits c = answer_unfit _ _ _ _ _ c.waits.ensures c.if-waits-eq0.false c.return_of.ensures c.in-Returns.is c.used-used.ensures c.fits.ensures (ap not c.if-not-fits.true)
+
+pub reply-requires : goal.reply-requires
+reply-requires c = answer_replyable _ 0 _ _ _ c.waits.ensures c.if-waits-eq0.false c.return_of.ensures c.in-Returns.is c.used-used.ensures c.fits.ensures c.requires (ap not c.if-not-fits.false)
+
+pub returns-in-Malformed : goal.returns-in-Malformed
+returns-in-Malformed c = answer_malformed _ _ _ _ _ c.waits.ensures c.if-waits-eq0.false c.return_of.ensures c.in-Malformed.is
+
+pub returns-else-not-fits : goal.returns-else-not-fits
+returns-else-not-fits c = answer_replied _ _ _ _ _ c.waits.ensures c.if-waits-eq0.false c.return_of.ensures c.in-Returns.is c.reply.ensures

@@ -1,0 +1,39 @@
+-- `callbacks::reply` meets its contract. Assumes nothing.
+use borrow.Author.Rules.{rules}
+use mathlib.Core.Path.{refl}
+use native.Mathlib.Omega.{arith}
+use Rattle.callbacks.specs.ReplyLaws.{frames_few, base_low, reply_layable, reply_leavable, reply_plannable, reply_finishable, reply_refused, reply_copies, reply_done, reply_too_many}
+use Rattle.callbacks.proofs.reply.Goals as goal
+
+pub lay-end-requires : goal.lay-end-requires
+lay-end-requires c = search reply_layable
+
+pub overflow_sub-top : goal.overflow_sub-top
+overflow_sub-top c = omega (arith, frames_few c.requires c.frames-frames.ensures)
+
+pub bounds-starts-top : goal.bounds-starts-top
+bounds-starts-top c = omega (arith, frames_few c.requires c.frames-frames.ensures)
+
+pub overflow_cast-base : goal.overflow_cast-base
+overflow_cast-base c = omega (arith, base_low c.requires c.frames-frames.ensures c.lay-end.ensures (search) (search) refl)
+
+pub frames_left-requires : goal.frames_left-requires
+frames_left-requires c = search reply_leavable
+
+pub plan_of-plan-requires : goal.plan_of-plan-requires
+plan_of-plan-requires c = reply_plannable c.requires c.frames-frames.ensures c.lay-end.ensures (search) (search) refl c.used.ensures _ _ c.frames_left.ensures c.in-Frames.is
+
+pub finish-done-requires : goal.finish-done-requires
+finish-done-requires c = reply_finishable c.requires c.frames-frames.ensures c.lay-end.ensures (search) (search) refl c.used.ensures _ _ c.frames_left.ensures c.in-Frames.is c.plan_of-plan.ensures c.room-most.ensures
+
+pub returns-then-done-ne0 : goal.returns-then-done-ne0
+returns-then-done-ne0 c = reply_refused c.requires c.frames-frames.ensures c.lay-end.ensures (search) (search) refl c.used.ensures _ _ c.frames_left.ensures c.in-Frames.is c.plan_of-plan.ensures c.room-most.ensures c.finish-done.ensures c.if-done-ne0.true
+
+pub copy-requires : goal.copy-requires
+copy-requires c = reply_copies c.requires c.frames-frames.ensures c.lay-end.ensures (search) (search) refl c.used.ensures _ _ c.frames_left.ensures c.in-Frames.is c.plan_of-plan.ensures c.room-most.ensures c.finish-done.ensures c.if-done-ne0.false
+
+pub returns-in-TooMany : goal.returns-in-TooMany
+returns-in-TooMany c = reply_too_many c.requires c.frames-frames.ensures c.lay-end.ensures (search) (search) refl c.used.ensures _ _ c.frames_left.ensures c.in-TooMany.is
+
+pub returns-else-done-ne0 : goal.returns-else-done-ne0
+returns-else-done-ne0 c = reply_done c.requires c.frames-frames.ensures c.lay-end.ensures (search) (search) refl c.used.ensures _ _ c.frames_left.ensures c.in-Frames.is c.plan_of-plan.ensures c.room-most.ensures c.finish-done.ensures c.if-done-ne0.false c.copy.ensures

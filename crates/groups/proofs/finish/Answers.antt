@@ -1,0 +1,45 @@
+-- `groups::finish` meets its contract: laws of NeedLaws and EndLaws. Assumes nothing.
+use native.Mathlib.Omega.{arith}
+use borrow.Author.Rules.{rules}
+use Rattle.groups.specs.NeedLaws.{finish_settles, finish_ends, finish_fails, finish_closes, finish_ticks, finish_left}
+use Rattle.groups.specs.EndLaws.{finishes_paused, finishes_spent, finishes_refused, finishes_throws, finishes_closes}
+use Rattle.groups.proofs.finish.Goals as goal
+
+pub end-requires : goal.end-requires
+end-requires c = finish_ends c.requires
+
+pub settle-requires : goal.settle-requires
+settle-requires c = finish_settles c.requires
+
+pub settle-requires-in-Spent : goal.settle-requires-in-Spent
+settle-requires-in-Spent c = finish_settles c.requires
+
+pub settle-requires-in-Refused : goal.settle-requires-in-Refused
+settle-requires-in-Refused c = finish_settles c.requires
+
+pub fail-a-requires : goal.fail-a-requires
+fail-a-requires c = search finish_fails
+
+pub acted-requires : goal.acted-requires
+acted-requires c = (omega arith, search (finish_ticks, c.requires, c.in-Throws.in-Throws-own, c.in-Throws.known_told-in-Throws-1-own))
+
+pub close-a-requires : goal.close-a-requires
+close-a-requires c = search finish_closes
+
+pub acted-requires-in-Closes : goal.acted-requires-in-Closes
+acted-requires-in-Closes c = (omega (arith, c.requires.low), search finish_left)
+
+pub returns-in-Paused : goal.returns-in-Paused
+returns-in-Paused c = search finishes_paused
+
+pub returns-in-Spent : goal.returns-in-Spent
+returns-in-Spent c = search finishes_spent
+
+pub returns-in-Refused : goal.returns-in-Refused
+returns-in-Refused c = search finishes_refused
+
+pub returns-in-Throws : goal.returns-in-Throws
+returns-in-Throws c = search finishes_throws
+
+pub returns-in-Closes : goal.returns-in-Closes
+returns-in-Closes c = search finishes_closes
