@@ -1,4 +1,4 @@
-// The calls of the host, exported to C. Each is one function of the crates below, with the same contract.
+// The calls of the host. Each is one function of the crates below, with the same contract; `executor_c` exports them to C.
 #![tactic(auto)]
 
 ghost use Rattle.executor.specs.Exports.{memory, Allows, lucia_load, lucia_start, lucia_run, lucia_answer, lucia_clear, lucia_text, lucia_bytes, lucia_set_global, lucia_get_global, lucia_set_builtin, lucia_get_builtin};
@@ -6,15 +6,13 @@ ghost use Rattle.executor.specs.Exports.{memory, Allows, lucia_load, lucia_start
 use asks::{Got, Part};
 use runs::Ran;
 
-#[unsafe(no_mangle)]
-pub extern "C" fn lucia_load(image: &[u8], state: &mut [u8], live: &[u8], store: &mut [u8]) -> Got
+pub fn lucia_load(image: &[u8], state: &mut [u8], live: &[u8], store: &mut [u8]) -> Got
     ensures { Allows image.now (lucia_load image.now) (memory state.old live.now store.old) result (memory state.new live.now store.new) }
 {
     loading::load(image, state, live, store)
 }
 
-#[unsafe(no_mangle)]
-pub extern "C" fn lucia_start(
+pub fn lucia_start(
     image: &[u8],
     state: &mut [u8],
     live: &mut [u8],
@@ -28,8 +26,7 @@ pub extern "C" fn lucia_start(
     turns::start(image, state, live, store, asks::cell_of(low, high), args)
 }
 
-#[unsafe(no_mangle)]
-pub extern "C" fn lucia_run(
+pub fn lucia_run(
     image: &[u8],
     state: &mut [u8],
     live: &mut [u8],
@@ -42,8 +39,7 @@ pub extern "C" fn lucia_run(
     runs::run(image, state, live, store, fuel, ticks)
 }
 
-#[unsafe(no_mangle)]
-pub extern "C" fn lucia_answer(
+pub fn lucia_answer(
     image: &[u8],
     state: &mut [u8],
     live: &mut [u8],
@@ -64,15 +60,13 @@ pub extern "C" fn lucia_answer(
     )
 }
 
-#[unsafe(no_mangle)]
-pub extern "C" fn lucia_clear(image: &[u8], state: &mut [u8], live: &[u8], store: &[u8]) -> u32
+pub fn lucia_clear(image: &[u8], state: &mut [u8], live: &[u8], store: &[u8]) -> u32
     ensures { Allows image.now lucia_clear (memory state.old live.now store.now) result (memory state.new live.now store.now) }
 {
     loading::clear(image, state, live, store)
 }
 
-#[unsafe(no_mangle)]
-pub extern "C" fn lucia_text(
+pub fn lucia_text(
     image: &[u8],
     state: &[u8],
     live: &[u8],
@@ -86,8 +80,7 @@ pub extern "C" fn lucia_text(
     readings::text(image, state, live, store, page, low, high)
 }
 
-#[unsafe(no_mangle)]
-pub extern "C" fn lucia_bytes(
+pub fn lucia_bytes(
     image: &[u8],
     state: &[u8],
     live: &[u8],
@@ -100,8 +93,7 @@ pub extern "C" fn lucia_bytes(
     readings::bytes(image, state, live, store, low, high)
 }
 
-#[unsafe(no_mangle)]
-pub extern "C" fn lucia_set_global(
+pub fn lucia_set_global(
     image: &[u8],
     state: &mut [u8],
     live: &[u8],
@@ -115,8 +107,7 @@ pub extern "C" fn lucia_set_global(
     settings::set_global(image, state, live, store, number, low, high)
 }
 
-#[unsafe(no_mangle)]
-pub extern "C" fn lucia_get_global(
+pub fn lucia_get_global(
     image: &[u8],
     state: &[u8],
     live: &[u8],
@@ -128,8 +119,7 @@ pub extern "C" fn lucia_get_global(
     readings::get_global(image, state, live, store, number)
 }
 
-#[unsafe(no_mangle)]
-pub extern "C" fn lucia_set_builtin(
+pub fn lucia_set_builtin(
     image: &[u8],
     state: &mut [u8],
     live: &[u8],
@@ -143,8 +133,7 @@ pub extern "C" fn lucia_set_builtin(
     settings::set_builtin(image, state, live, store, number, low, high)
 }
 
-#[unsafe(no_mangle)]
-pub extern "C" fn lucia_get_builtin(
+pub fn lucia_get_builtin(
     image: &[u8],
     state: &[u8],
     live: &[u8],
