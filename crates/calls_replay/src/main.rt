@@ -7,6 +7,9 @@
 
 #![tactic(auto)]
 
+use std::io;
+use std::io::{Read, Write};
+
 #[derive(Clone, Copy)]
 struct Answer {
     code: u32,
@@ -94,33 +97,37 @@ fn play(
     }
 }
 
-// So many bytes of standard input into the front of a buffer; false where it is too short or the input ends.
-fn fill(buf: &mut [u8], len: usize) -> bool {
+// So many bytes of the input into the front of a buffer; false where it is too short or the input ends.
+fn fill(input: &mut impl Read, buf: &mut [u8], len: usize) -> bool {
     if len > buf.len() {
         return false;
     }
-    io::read_full(0, &mut buf[..len]) == len
+    input.read_exact(&mut buf[..len]).is_ok()
 }
 
 // The first bytes of a slice, none where it is too short.
-fn write_first(bytes: &[u8], len: usize) -> bool {
+fn write_first(output: &mut impl Write, bytes: &[u8], len: usize) -> io::Result<bool> {
     if len > bytes.len() {
-        return false;
+        return Ok(false);
     }
-    io::write_all(1, &bytes[..len])
+    output.write_all(&bytes[..len])?;
+    Ok(true)
 }
 
-fn write(answer: Answer, fuel: &[u8], state: &[u8]) -> bool {
+fn write(output: &mut impl Write, answer: Answer, fuel: &[u8], state: &[u8]) -> io::Result<bool> {
     let mut bytes = [0u8; 24];
     cells::write32(&mut bytes, 0, answer.code);
     cells::write32(&mut bytes, 4, answer.ticks);
     cells::write64(&mut bytes, 8, answer.low);
     cells::write64(&mut bytes, 16, answer.high);
-    io::write_all(1, &bytes) && io::write_all(1, fuel) && write_first(state, 64)
+    output.write_all(&bytes)?;
+    output.write_all(fuel)?;
+    write_first(output, state, 64)
 }
 
 // The front of each buffer is lent.
 fn lend(
+    output: &mut impl Write,
     head: &[u8; 64],
     image: &[u8],
     page: &[u8],
@@ -130,14 +137,14 @@ fn lend(
     state: &mut [u8],
     live: &mut [u8],
     store: &mut [u8],
-) -> bool {
+) -> io::Result<bool> {
     let i = cells::read32(head, 8) as usize;
     let p = cells::read32(head, 12) as usize;
     let a = cells::read32(head, 16) as usize;
     let h = cells::read32(head, 20) as usize;
     let f = cells::read32(head, 24) as usize;
     if i > image.len() || p > page.len() || a > args.len() || h > handlers.len() || f > fuel.len() {
-        return false;
+        return Ok(false);
     }
     let answer = play(
         head,
@@ -150,39 +157,48 @@ fn lend(
         live,
         store,
     );
-    write(answer, fuel, state)
+    write(output, answer, fuel, state)
 }
 
 // One call; false at the end of the input.
-fn call(state: &mut [u8; 8256], live: &mut [u8; 32768], store: &mut [u8; 1024]) -> bool {
+fn call(
+    input: &mut impl Read,
+    output: &mut impl Write,
+    state: &mut [u8; 8256],
+    live: &mut [u8; 32768],
+    store: &mut [u8; 1024],
+) -> io::Result<bool> {
     let mut head = [0u8; 64];
-    if io::read_full(0, &mut head) != 64 {
-        return false;
+    if input.read_exact(&mut head).is_err() {
+        return Ok(false);
     }
     let mut image = [0u8; 65600];
     let mut page = [0u8; 256];
     let mut args = [0u8; 65600];
     let mut handlers = [0u8; 1024];
     let mut fuel = [0u8; 16];
-    if fill(&mut image, cells::read32(&head, 8) as usize)
-        && fill(&mut page, cells::read32(&head, 12) as usize)
-        && fill(&mut args, cells::read32(&head, 16) as usize)
-        && fill(&mut handlers, cells::read32(&head, 20) as usize)
-        && fill(&mut fuel, cells::read32(&head, 24) as usize)
+    if fill(input, &mut image, cells::read32(&head, 8) as usize)
+        && fill(input, &mut page, cells::read32(&head, 12) as usize)
+        && fill(input, &mut args, cells::read32(&head, 16) as usize)
+        && fill(input, &mut handlers, cells::read32(&head, 20) as usize)
+        && fill(input, &mut fuel, cells::read32(&head, 24) as usize)
     {
         return lend(
-            &head, &image, &page, &args, &handlers, &mut fuel, state, live, store,
+            output, &head, &image, &page, &args, &handlers, &mut fuel, state, live, store,
         );
     }
-    false
+    Ok(false)
 }
 
-fn main() {
+fn main(rt: HostRuntime) -> io::Result<()> {
+    let mut input = rt.stdin();
+    let mut output = rt.stdout();
     let mut state = [0u8; 8256];
     let mut live = [0u8; 32768];
     let mut store = [0u8; 1024];
     let mut calls: u32 = 4000000000;
-    while calls > 0 && call(&mut state, &mut live, &mut store) {
+    while calls > 0 && call(&mut input, &mut output, &mut state, &mut live, &mut store)? {
         calls -= 1;
     }
+    Ok(())
 }
