@@ -1,7 +1,6 @@
 -- `cells::read16` meets its contract. Assumes nothing.
 use native.Mathlib.Omega.{arith}
 use Rattle.cells.specs.Le.{le_at}
-use borrow.Author.Rules.{rules}
 use Rattle.cells.proofs.read16.Goals as goal
 
 pub returns : goal.returns

@@ -1,7 +1,6 @@
 -- `cells::read32` meets its contract: two numbers side by side are one. Assumes nothing.
 use native.Mathlib.Omega.{arith}
 use Rattle.cells.specs.Le.{limit, le_join}
-use borrow.Author.Rules.{rules}
 use Rattle.cells.proofs.read32.Goals as goal
 
 pub returns : goal.returns

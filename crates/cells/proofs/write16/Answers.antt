@@ -3,7 +3,6 @@ use native.Mathlib.Omega.{arith}
 use mathlib.Core.Path.{refl}
 use lib.ListN.{length-set}
 use Rattle.cells.specs.Le.{put_at}
-use borrow.Author.Rules.{rules}
 use Rattle.cells.proofs.write16.Goals as goal
 
 pub bounds-s-at-2 : goal.bounds-s-at-2

@@ -1,6 +1,5 @@
 -- `cells::write64` meets its contract: two numbers written side by side are one. Assumes nothing.
 use Rattle.cells.specs.Le.{limit, put_join, put_low}
-use borrow.Author.Rules.{rules}
 use Rattle.cells.proofs.write64.Goals as goal
 
 pub returns : goal.returns

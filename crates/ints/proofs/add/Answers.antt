@@ -1,5 +1,4 @@
 -- `ints::add` meets its contract: the sum of the patterns is the pattern of the sum. Assumes nothing.
-use Rattle.std.proofs.Common.{rules}
 use Rattle.ints.specs.Ints.{half}
 use Rattle.ints.proofs.Laws.{add_is}
 use Rattle.ints.proofs.add.Goals as goal

@@ -1,6 +1,5 @@
 -- `ints::div` meets its contract: the callees compute the parts of its definition. Assumes nothing.
 use mathlib.Core.Bool.{xor}
-use Rattle.std.proofs.Common.{rules}
 use Rattle.ints.specs.Ints.{half}
 use Rattle.ints.proofs.Laws.{divided_none, divided_some, abs_some}
 use Rattle.ints.proofs.div.Goals as goal

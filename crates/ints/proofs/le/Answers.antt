@@ -1,5 +1,4 @@
 -- `ints::le` meets its contract: the converse of `lt`. Assumes nothing.
-use Rattle.std.proofs.Common.{rules}
 use Rattle.ints.specs.Ints.{half}
 use Rattle.ints.proofs.Laws.{le_is}
 use Rattle.ints.proofs.le.Goals as goal

@@ -1,5 +1,4 @@
 -- `ints::lt` meets its contract: by the signs. Assumes nothing.
-use Rattle.std.proofs.Common.{rules}
 use Rattle.ints.specs.Ints.{half}
 use Rattle.ints.proofs.Laws.{lt_same, lt_other}
 use Rattle.ints.proofs.lt.Goals as goal

@@ -1,5 +1,5 @@
 -- `ints::mul` meets its contract: by halves. Assumes nothing.
-use Rattle.std.proofs.Common.{refl, rules}
+use Rattle.std.proofs.Common.{refl}
 use Rattle.ints.specs.Ints.{half}
 use Rattle.ints.proofs.Laws.{mul_is}
 use Rattle.ints.proofs.mul.Goals as goal

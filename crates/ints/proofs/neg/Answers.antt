@@ -1,5 +1,4 @@
 -- `ints::neg` meets its contract: what with a makes 0 modulo 2^64. Assumes nothing.
-use Rattle.std.proofs.Common.{rules}
 use Rattle.ints.specs.Ints.{half}
 use Rattle.ints.proofs.Laws.{neg_is}
 use Rattle.ints.proofs.neg.Goals as goal

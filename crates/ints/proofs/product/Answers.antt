@@ -1,5 +1,5 @@
 -- `ints::product` meets its contract: a product of two numbers of 32 bits fits 64. Assumes nothing.
-use Rattle.std.proofs.Common.{arith, rules}
+use Rattle.std.proofs.Common.{arith}
 use Rattle.ints.proofs.Laws.{bound}
 use Rattle.ints.proofs.product.Goals as goal
 

@@ -1,5 +1,4 @@
 -- `ints::rem` meets its contract: the callees compute the parts of its definition. Assumes nothing.
-use Rattle.std.proofs.Common.{rules}
 use Rattle.ints.specs.Ints.{half}
 use Rattle.ints.proofs.Laws.{divided_none, divided_some, abs_some}
 use Rattle.ints.proofs.rem.Goals as goal

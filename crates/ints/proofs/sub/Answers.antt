@@ -1,5 +1,4 @@
 -- `ints::sub` meets its contract: what with b makes a modulo 2^64. Assumes nothing.
-use Rattle.std.proofs.Common.{rules}
 use Rattle.ints.specs.Ints.{half}
 use Rattle.ints.proofs.Laws.{sub_is}
 use Rattle.ints.proofs.sub.Goals as goal

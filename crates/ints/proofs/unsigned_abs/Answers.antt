@@ -1,5 +1,4 @@
 -- `ints::unsigned_abs` meets its contract: by the sign. Assumes nothing.
-use Rattle.std.proofs.Common.{rules}
 use Rattle.ints.specs.Ints.{half}
 use Rattle.ints.proofs.Laws.{abs_negative, abs_plain}
 use Rattle.ints.proofs.unsigned_abs.Goals as goal

@@ -1,5 +1,4 @@
 -- `ints::with_sign` meets its contract: by the sign. Assumes nothing.
-use Rattle.std.proofs.Common.{rules}
 use Rattle.ints.specs.Ints.{half}
 use Rattle.ints.proofs.Laws.{sign_negative, sign_plain}
 use Rattle.ints.proofs.with_sign.Goals as goal
