@@ -117,9 +117,18 @@ def operator_used(name, text_words):
     return any(p in text_words or any(p in w for w in text_words) for p in name.split("◌") if p)
 
 
+# Files that go whole: their definitions stand in `module` blocks of laws, or are names for what the laws say.
+WHOLE = {("machine", m) for m in ("DemandLaws", "Kept", "Rows", "Worked")}
+
+
 def split(crate, path):
     mod = os.path.basename(path)[:-5]
-    lines = open(path, encoding="utf-8").read().split("\n")
+    text = open(path, encoding="utf-8").read()
+    if (crate, mod) in WHOLE:
+        os.makedirs(f"crates/{crate}/proofs", exist_ok=True)
+        os.rename(path, f"crates/{crate}/proofs/{mod}.antt")
+        return set(), False
+    lines = text.split("\n")
     head = []
     while lines and (lines[0].startswith("--") or not lines[0].strip()):
         head.append(lines.pop(0))

@@ -1,4 +1,4 @@
--- Laws: each file says what it shows.
+-- Laws: of operands and of parts; `layout` agrees with `parse` (Agrees); what holds of an accepted image (Accepted); samples.
 pub mod Operands
 pub mod Parts
 pub mod Agrees

@@ -1,3 +1,3 @@
--- What the contracts of `ints` cite, the laws of it, and rows of the test board.
+-- What the contracts of `ints` cite, and a word of its laws.
 pub mod Ints
 pub mod Modulo

@@ -2,7 +2,7 @@
 use Rattle.std.proofs.Math.Path.{◌≡◌, refl, ap}
 use Rattle.std.proofs.Common.{sym, ◌∙◌}
 use mathlib.Core.List.{List, [], ◌∷◌, reverse}
-use Rattle.std.specs.Prelude.{◌⊎◌, Bool, ℕ, ◌+◌, ◌-◌, ◌≤◌, length, take, drop, eqb, ltb}
+use Rattle.std.specs.Prelude.{◌⊎◌, Bool, ℕ, ◌+◌, ◌≤◌, length, take, drop, eqb, ltb}
 use Rattle.std.proofs.Math.Logic.{inl, inr, ⊎_elim}
 use Rattle.std.proofs.Math.Bool.{true, false}
 use native.Mathlib.Omega.{arith}

@@ -3,9 +3,9 @@ pub mod Values
 pub mod Machine
 pub mod Opcodes
 pub mod Calls
--- Demand 3: the statement is Demand, the theorem the end of Theorem; `demands` has the same of the exported functions.
+-- Demand 3: the statement. The theorem is the end of proofs/Theorem; `demands` has the same of the exported functions.
 pub mod Demand
--- Laws: of steps, of runs (ticks, pauses, endings), of slices and of one group; every machine reached is in form; the form that refusal 7 tests (Form) is closed under the rules (FormLaws); which refusals each step can give; what a step does not read.
+-- The words of the laws in proofs/, each file for its namesake there: of steps, of runs (ticks, pauses, endings), of slices and of one group; machines in form (Form has the form that refusal 7 tests); refusals; what a step does not read.
 pub mod StepLaws
 pub mod RunLaws
 pub mod SliceLaws
@@ -20,6 +20,5 @@ pub mod FormLaws
 pub mod Refusals
 pub mod RequestRefusals
 pub mod Local
--- Rows that the checker computes: P1 to P12, and those that the oracle writes.
+-- What rows and the oracle's answers are shown as.
 pub mod Seen
--- One history worked by the rules of Demand: row P9.

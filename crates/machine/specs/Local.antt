@@ -1,7 +1,7 @@
 -- A step reads nothing of the frames under the running ones but their handlers and sizes.
 use Rattle.std.specs.Prelude.{◌≡◌, length}
 use mathlib.Core.List.{List, [], ◌∷◌, ◌++◌}
-use Prim.Native.Nat.{ℕ, ◌+◌, ◌≤◌}
+use Prim.Native.Nat.{ℕ, ◌≤◌}
 use Rattle.cells.specs.declared.Cell.{Cell}
 use Rattle.machine.specs.Machine.{Handler, Frame, lucia, host, effect_callback, M, with_frames, frames_cost, used, result_cost}
 use Rattle.machine.specs.Opcodes.{Action, goes, jumps, makes, sets, sets_builtin, calls, performs, throws, returns, clears, Taken, takes, refuses}

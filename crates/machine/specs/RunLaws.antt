@@ -1,16 +1,16 @@
 -- Laws of runs: the ticks taken, how a run ends, runs one after the other, refusals, and the loop that only jumps.
 use Rattle.std.specs.Prelude.{◌≡◌, List, [], ◌∷◌, ◌++◌, false, pos, length, get_or, replicate, eqb}
-use Prim.Native.Nat.{ℕ, zero, suc, ◌+◌, ◌≤◌, ◌<◌}
+use Prim.Native.Nat.{ℕ, zero, suc, ◌≤◌, ◌<◌}
 use Rattle.cells.specs.Cells.{null}
 use Rattle.cells.specs.declared.Cell.{Cell}
 use Rattle.fuel.specs.Fuels.{consume, should_continue}
 use Rattle.fuel.specs.declared.Fuel.{Fuel}
-use Rattle.image.specs.Records.{if?, both}
+use Rattle.image.specs.Records.{if?}
 use Rattle.image.specs.Program.{Code, no_op}
 use Rattle.machine.specs.Values.{Program, code_of}
 use Rattle.machine.specs.Machine.{Handler, Frame, lucia, closure, running, M, here, object_at}
 use Rattle.machine.specs.Opcodes.{jumps, next_action}
-use Rattle.machine.specs.Calls.{Sizes, stops, outcome, world, Step, Trace, steps, ends, steps_of, answer_of, given_of, fuel_after, world_after, Turn, is_done, is_host, is_ready, turn_of, run}
+use Rattle.machine.specs.Calls.{Sizes, stops, outcome, Step, Trace, steps, ends, steps_of, answer_of, given_of, fuel_after, world_after, Turn, is_done, is_host, is_ready, turn_of, run}
 use Rattle.machine.specs.StepLaws.{Kept, Fits, Accepted, Refusal}
 
 -- What `charge` makes of the fuel.

@@ -8,4 +8,3 @@ pub mod FrameTests
 pub mod FrameLaws
 pub mod StoreLaws
 pub mod StateLaws
--- The test on a sample.

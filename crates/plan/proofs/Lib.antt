@@ -1,3 +1,3 @@
--- Laws: each file says what it shows.
+-- Laws: of what is appended to a store (Appended), and of a frame that runs (InsideLaws).
 pub mod Appended
 pub mod InsideLaws

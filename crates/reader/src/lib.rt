@@ -400,9 +400,8 @@ pub fn refusal(image: &[u8]) -> u32
     }
 }
 
-// The same for C: the oracle links it, to compare and to time the reader alone. It is no call of the executor's.
-#[unsafe(no_mangle)]
-pub extern "C" fn lucia_refusal(image: &[u8]) -> u32
+// The same by another name, which `reader_c` exports to C.
+pub fn lucia_refusal(image: &[u8]) -> u32
     ensures { result ≡ refusal_of (parse image.now) }
 {
     refusal(image)

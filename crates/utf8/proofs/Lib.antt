@@ -1,4 +1,4 @@
--- Laws: each file says what it shows.
+-- Laws: of a first octet, and of a text; samples.
 pub mod FirstLaws
 pub mod Laws
 pub mod Samples

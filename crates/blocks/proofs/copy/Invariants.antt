@@ -2,8 +2,7 @@
 use Prim.Native.Nat.{◌≤◌, ◌-◌}
 use lib.ListN.{drop}
 use Rattle.cells.specs.Cells.{cells}
-use Rattle.blocks.proofs.Copied.{Copied, copied_none, copied_from, copied_all}
-use borrow.Author.Rules.{rules}
+use Rattle.blocks.proofs.Copied.{Copied}
 use Rattle.blocks.proofs.copy.Given as goal
 
 abbrev pub invariant-loop-copied : goal.invariant-loop-copied

@@ -1,7 +1,5 @@
 -- `blocks::fill` meets its contract: the loop keeps `Copied`. Assumes nothing.
-use Prim.Native.Nat.{◌≤◌, ◌-◌}
-use lib.ListN.{replicate}
-use Rattle.blocks.proofs.Copied.{Copied, copied_none, copied_same, copied_all}
+use Rattle.blocks.proofs.Copied.{copied_none, copied_same, copied_all}
 use borrow.Author.Rules.{rules}
 use Rattle.blocks.proofs.fill.Goals as goal
 

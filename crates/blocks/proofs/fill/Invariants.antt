@@ -1,8 +1,7 @@
 -- `blocks::fill` meets its contract: the loop keeps `Copied`. Assumes nothing.
 use Prim.Native.Nat.{◌≤◌, ◌-◌}
 use lib.ListN.{replicate}
-use Rattle.blocks.proofs.Copied.{Copied, copied_none, copied_same, copied_all}
-use borrow.Author.Rules.{rules}
+use Rattle.blocks.proofs.Copied.{Copied}
 use Rattle.blocks.proofs.fill.Given as goal
 
 abbrev pub invariant-loop-filled : goal.invariant-loop-filled

@@ -1,8 +1,5 @@
 -- `blocks::lower` meets its contract: the loop keeps `Copied`. Assumes nothing.
-use Prim.Native.Nat.{◌≤◌, ◌-◌}
-use lib.ListN.{drop}
-use Rattle.cells.specs.Cells.{cells}
-use Rattle.blocks.proofs.Copied.{Copied, copied_none, copied_lower, copied_all}
+use Rattle.blocks.proofs.Copied.{copied_none, copied_lower, copied_all}
 use borrow.Author.Rules.{rules}
 use Rattle.blocks.proofs.lower.Goals as goal
 

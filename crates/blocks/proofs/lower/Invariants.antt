@@ -2,8 +2,7 @@
 use Prim.Native.Nat.{◌≤◌, ◌-◌}
 use lib.ListN.{drop}
 use Rattle.cells.specs.Cells.{cells}
-use Rattle.blocks.proofs.Copied.{Copied, copied_none, copied_lower, copied_all}
-use borrow.Author.Rules.{rules}
+use Rattle.blocks.proofs.Copied.{Copied}
 use Rattle.blocks.proofs.lower.Given as goal
 
 abbrev pub invariant-loop-moved : goal.invariant-loop-moved

@@ -1,8 +1,5 @@
 -- `blocks::raise` meets its contract: the loop keeps `Copied`, the last cell first. Assumes nothing.
-use Prim.Native.Nat.{◌≤◌, ◌-◌, ◌+◌}
-use lib.ListN.{drop}
-use Rattle.cells.specs.Cells.{cells}
-use Rattle.blocks.proofs.Copied.{Copied, raised_none, raised_more, raised_all}
+use Rattle.blocks.proofs.Copied.{raised_none, raised_more, raised_all}
 use borrow.Author.Rules.{rules}
 use Rattle.blocks.proofs.raise.Goals as goal
 

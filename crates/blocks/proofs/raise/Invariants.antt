@@ -2,8 +2,7 @@
 use Prim.Native.Nat.{◌≤◌, ◌-◌, ◌+◌}
 use lib.ListN.{drop}
 use Rattle.cells.specs.Cells.{cells}
-use Rattle.blocks.proofs.Copied.{Copied, raised_none, raised_more, raised_all}
-use borrow.Author.Rules.{rules}
+use Rattle.blocks.proofs.Copied.{Copied}
 use Rattle.blocks.proofs.raise.Given as goal
 
 abbrev pub invariant-loop-left : goal.invariant-loop-left
