@@ -1,7 +1,7 @@
 -- `layout` and `parse` are one: the tables that the reader fills stand for the program that the image is.
 use Rattle.std.specs.Prelude.{◌≡◌, get_or}
 use mathlib.Core.List.{List, ◌++◌}
-use Prim.Native.Nat.{ℕ, ◌+◌, ◌*◌, ◌<◌}
+use Prim.Native.Nat.{ℕ, ◌*◌, ◌<◌}
 use Rattle.std.proofs.Math.ListN.{length}
 use Rattle.image.specs.Program.{Code, no_code}
 use Rattle.image.specs.Layout.{Tables, code_at}

@@ -7,7 +7,6 @@ use Rattle.cells.specs.Cells.{null, cells, Writes, room}
 use Rattle.cells.specs.CellsLaws.{length_cells}
 use Rattle.cells.specs.declared.Cell.{Cell}
 use Rattle.machine.specs.Values.{cell}
-use Rattle.machine.specs.Machine.{used}
 use Rattle.loading.specs.Fresh.{headed, cleared, fresh_store, fresh_state}
 
 -- one write, then another

@@ -20,7 +20,6 @@ use Rattle.machine.specs.Values.{Program, closure_at, cell}
 use Rattle.machine.specs.Machine.{used, cost}
 use Rattle.machine.specs.Calls.{Sizes, loaded, loaded_machine, load_of, program_of, load}
 use Rattle.memory.specs.Layout.{state_cells, result_shown, store_cells, object_cells}
-use Rattle.form.specs.Entry.{store_of}
 use Rattle.asks.specs.Asks.{sizes_of, got_of, loading, load_answer, LoadLeft, Loaded}
 use Rattle.asks.specs.declared.Got.{Got}
 use Rattle.loading.specs.declared.Outermost.{Outermost}

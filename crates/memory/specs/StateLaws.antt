@@ -3,7 +3,6 @@ use Rattle.std.specs.Prelude.{◌≡◌, ℕ, length}
 use mathlib.Core.List.{List}
 use Rattle.std.proofs.Math.Bool.{true}
 use Rattle.cells.specs.declared.Cell.{Cell}
-use Rattle.image.proofs.Parts.{second}
 use Rattle.machine.specs.Values.{Program, cell}
 use Rattle.machine.specs.Machine.{Object, Result, result_cost}
 use Rattle.machine.specs.Calls.{are_values}

@@ -1,7 +1,7 @@
 -- The store's part of the form test: objects one after the other, of which each names earlier ones, are what the test accepts and what is read off.
 use Rattle.std.specs.Prelude.{◌≡◌}
 use mathlib.Core.List.{List, [], ◌++◌}
-use Prim.Native.Nat.{ℕ, ◌+◌}
+use Prim.Native.Nat.{ℕ}
 use Rattle.std.proofs.Math.ListN.{drop}
 use Rattle.cells.specs.declared.Cell.{Cell}
 use Rattle.machine.specs.Values.{Program}

@@ -4,7 +4,7 @@ use Rattle.std.proofs.Common.{◌∙◌, arith, le-ltb, lt-ltb}
 use Rattle.std.proofs.Math.Path.{ap}
 use Rattle.cells.specs.declared.Cell.{Cell}
 use Rattle.machine.specs.Values.{Program}
-use Rattle.machine.specs.Machine.{Handler, Frame, lucia, Result, running, M, with_frames, frame_cost, frames_cost, result_cost, used, effects, handlers_of}
+use Rattle.machine.specs.Machine.{Handler, Frame, lucia, Result, M, with_frames, frame_cost, frames_cost, result_cost, used, effects, handlers_of}
 use Rattle.machine.specs.Opcodes.{Running, Action, goes, jumps, doing, Taken, takes}
 use Rattle.machine.specs.Calls.{Sizes, handlers_left, top_handlers, does, stops, judge, outcome}
 use Rattle.machine.specs.StepLaws.{Fits}

@@ -1,11 +1,11 @@
 -- What a plan does to a machine. What decides it (`call_function` and the others), what it costs, and what carries it out are three functions that agree on this.
-use Rattle.std.specs.Prelude.{◌≡◌, List, [], ◌∷◌, ◌++◌, Bool, true, false, ℕ, ◌+◌, ◌-◌, ◌<◌, ◌≤◌, length, get_or}
+use Rattle.std.specs.Prelude.{◌≡◌, List, [], ◌∷◌, ◌++◌, true, false, ℕ, ◌+◌, ◌-◌, ◌<◌, ◌≤◌, length}
 use Rattle.cells.specs.declared.Cell.{Cell}
 use Rattle.image.specs.Records.{if?}
 use Rattle.machine.specs.Values as v
 use Rattle.machine.specs.Values.{Program, continuation_at, thrown, shown}
-use Rattle.machine.specs.Machine.{Frame, Object, continuation, Result, returned, failed, unhandled, M, with_frames, with_result, with_store, used, here, object_at, parse, enter, put_back, receive}
-use Rattle.memory.specs.Layout.{Written, written, error_shown}
+use Rattle.machine.specs.Machine.{Frame, continuation, returned, failed, unhandled, M, with_frames, with_result, with_store, used, here, object_at, parse, enter, put_back, receive}
+use Rattle.memory.specs.Layout.{written, error_shown}
 use Rattle.moves.specs.Frames.{new_written}
 use Rattle.moves.specs.Handlers.{First}
 use Rattle.plan.specs.declared.Params.{Params}

@@ -2,7 +2,7 @@
 use Rattle.std.specs.Prelude.{◌≡◌, refl, List, [], ◌∷◌, Bool, true, false, cond, ℕ, ◌+◌, ◌<◌, ◌≤◌, length, leb}
 use Rattle.std.proofs.Common.{sym, ap, ◌∙◌, arith}
 use borrow.Author.Tests.{le-leb, lt-leb, leb-true}
-use Rattle.utf8.specs.Utf8.{Range, ◌to◌, both, within, tail, Row, rows, starts, char}
+use Rattle.utf8.specs.Utf8.{Range, both, within, tail, Row, rows, starts, char}
 use Rattle.utf8.specs.First.{lead, lead_to, lead_in, lead_of, tails, follow, followed}
 use Rattle.utf8.specs.declared.Lead.{Lead}
 

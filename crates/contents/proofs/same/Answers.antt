@@ -1,8 +1,5 @@
 -- `contents::same` meets its contract. Assumes nothing.
-use borrow.Author.Rules.{rules}
-use Prim.Native.Nat.{◌-◌}
-use lib.ListN.{length}
-use Rattle.program.specs.Effects.{Alike, same_long, alike_first, alike_next, alike_not, alike_ends}
+use Rattle.program.specs.Effects.{same_long, alike_first, alike_next, alike_not, alike_ends}
 use Rattle.contents.proofs.same.Goals as goal
 
 pub returns-then-a-b : goal.returns-then-a-b

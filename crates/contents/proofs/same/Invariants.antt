@@ -1,8 +1,7 @@
 -- `contents::same` meets its contract. Assumes nothing.
-use borrow.Author.Rules.{rules}
 use Prim.Native.Nat.{◌-◌}
 use lib.ListN.{length}
-use Rattle.program.specs.Effects.{Alike, same_long, alike_first, alike_next, alike_not, alike_ends}
+use Rattle.program.specs.Effects.{Alike}
 use Rattle.contents.proofs.same.Given as goal
 
 abbrev pub invariant-loop-i : goal.invariant-loop-i

@@ -1,5 +1,4 @@
 -- `contents::same_effect` meets its contract. Assumes nothing.
-use borrow.Author.Rules.{rules}
 use Rattle.program.specs.Effects.{effect_other, effect_builtin, effect_params_lem, effect_variadic, effect_names}
 use Rattle.contents.proofs.same_effect.Goals as goal
 

@@ -1,5 +1,4 @@
 -- `effects::constant_of` meets its contract. Assumes nothing.
-use borrow.Author.Rules.{rules}
 use Rattle.effects.specs.Effects.{constant_of_past, constant_of_over, constant_of_here}
 use Rattle.effects.proofs.constant_of.Goals as goal
 

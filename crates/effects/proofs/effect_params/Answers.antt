@@ -1,5 +1,4 @@
 -- `effects::effect_params` meets its contract. Assumes nothing.
-use borrow.Author.Rules.{rules}
 use Rattle.effects.specs.Effects.{params_builtin, params_declared}
 use Rattle.effects.proofs.effect_params.Goals as goal
 

@@ -1,5 +1,4 @@
 -- `effects::equal_effects` meets its contract. Assumes nothing.
-use borrow.Author.Rules.{rules}
 use Rattle.effects.specs.Effects.{equal_builtin, equal_builtin_not, equal_kinds, equal_bodies}
 use Rattle.effects.proofs.equal_effects.Goals as goal
 

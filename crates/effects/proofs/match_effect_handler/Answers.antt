@@ -1,5 +1,4 @@
 -- `effects::match_effect_handler` meets its contract. Assumes nothing.
-use borrow.Author.Rules.{rules}
 use Rattle.effects.specs.Effects.{match_counts, match_marks}
 use Rattle.effects.proofs.match_effect_handler.Goals as goal
 

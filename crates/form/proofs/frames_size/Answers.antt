@@ -1,7 +1,6 @@
 -- `form::frames_size` meets its contract: the loop keeps `Sized`. Assumes nothing.
 use native.Mathlib.Omega.{arith}
-use Prim.Native.Nat.{◌-◌}
-use Rattle.form.specs.Frames.{Sized, sized_first, sized_all, sized_head, sized_end, sized_next}
+use Rattle.form.specs.Frames.{sized_first, sized_all, sized_head, sized_end, sized_next}
 use Rattle.form.proofs.frames_size.Goals as goal
 
 pub loop-i-init : goal.loop-i-init

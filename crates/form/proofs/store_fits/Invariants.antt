@@ -1,10 +1,8 @@
 -- `form::store_fits` meets its contract: the loop keeps `Walked`. Assumes nothing.
-use native.Mathlib.Omega.{arith}
 use Prim.Native.Nat.{◌-◌}
 use Rattle.cells.specs.Cells.{cells}
-use Rattle.cells.specs.CellsLaws.{length_cells}
 use Rattle.scan.specs.Tables.{program_in}
-use Rattle.form.specs.Objects.{Walked, store_long, walked_first, walked_not, walked_ends, walked_next, walked_all}
+use Rattle.form.specs.Objects.{Walked}
 use Rattle.form.proofs.store_fits.Given as goal
 
 abbrev pub invariant-loop-at : goal.invariant-loop-at

@@ -1,8 +1,6 @@
 -- `makes::make_closure` meets its contract: `Closing` says which upvalues are put. Assumes nothing.
-use Prim.Native.Nat.{◌-◌}
 use native.Mathlib.Omega.{arith}
-use Rattle.scan.specs.Tables.{program_in}
-use Rattle.makes.specs.Closures.{Closing, closable_bounds, closure_no_live, closure_no_store, closing_begun, capturable, closing_more, closure_made}
+use Rattle.makes.specs.Closures.{closable_bounds, closure_no_live, closure_no_store, closing_begun, capturable, closing_more, closure_made}
 use borrow.Author.Rules.{rules}
 use Rattle.makes.proofs.make_closure.Goals as goal
 

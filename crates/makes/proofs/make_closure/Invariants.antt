@@ -1,9 +1,7 @@
 -- `makes::make_closure` meets its contract: `Closing` says which upvalues are put. Assumes nothing.
 use Prim.Native.Nat.{◌-◌}
-use native.Mathlib.Omega.{arith}
 use Rattle.scan.specs.Tables.{program_in}
-use Rattle.makes.specs.Closures.{Closing, closable_bounds, closure_no_live, closure_no_store, closing_begun, capturable, closing_more, closure_made}
-use borrow.Author.Rules.{rules}
+use Rattle.makes.specs.Closures.{Closing}
 use Rattle.makes.proofs.make_closure.Given as goal
 
 abbrev pub invariant-loop-i : goal.invariant-loop-i

@@ -1,6 +1,5 @@
 -- `moves::handler_target` meets its contract. Assumes nothing.
 use Rattle.moves.specs.Runs.{target_shows}
-use borrow.Author.Rules.{rules}
 use Rattle.moves.proofs.handler_target.Goals as goal
 
 pub returns : goal.returns

@@ -4,7 +4,6 @@ use native.Mathlib.Omega.{arith}
 use Rattle.cells.specs.Cells.{cells}
 use Rattle.moves.specs.Frames.{kept_lucia, kept_other}
 use Rattle.moves.specs.declared.Running.{Running}
-use borrow.Author.Rules.{rules}
 use Rattle.moves.proofs.kept.Goals as goal
 
 pub returns-then-tag-eq64 : goal.returns-then-tag-eq64

@@ -1,6 +1,5 @@
 -- `moves::set_handler` meets its contract. Assumes nothing.
 use Rattle.moves.specs.Runs.{sets_handler}
-use borrow.Author.Rules.{rules}
 use Rattle.moves.proofs.set_handler.Goals as goal
 
 pub returns : goal.returns

@@ -1,6 +1,5 @@
 -- `moves::set_top` meets its contract. Assumes nothing.
 use Rattle.moves.specs.Runs.{sets_top}
-use borrow.Author.Rules.{rules}
 use Rattle.moves.proofs.set_top.Goals as goal
 
 pub returns : goal.returns

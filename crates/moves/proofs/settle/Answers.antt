@@ -1,6 +1,5 @@
 -- `moves::settle` meets its contract. Assumes nothing.
 use Rattle.moves.specs.Runs.{settled}
-use borrow.Author.Rules.{rules}
 use Rattle.moves.proofs.settle.Goals as goal
 
 pub returns : goal.returns

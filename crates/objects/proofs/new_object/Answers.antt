@@ -1,6 +1,5 @@
 -- `objects::new_object` meets its contract. Assumes nothing.
 use Rattle.moves.specs.Objects.{makes}
-use borrow.Author.Rules.{rules}
 use Rattle.objects.proofs.new_object.Goals as goal
 
 pub returns : goal.returns

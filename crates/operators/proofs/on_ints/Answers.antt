@@ -1,5 +1,4 @@
 -- `operators::on_ints` meets its contract. Assumes nothing.
-use mathlib.Core.Logic.{⊎_elim}
 use Rattle.operators.specs.Computing.{binary_ints, binary_first, binary_second}
 use Rattle.operators.proofs.on_ints.Goals as goal
 use Rattle.operators.proofs.on_ints.Goals.{else-a-eq2-via-then-a-eq2+else-b-eq2, else-a-eq2-via-else-a-eq2}

@@ -4,7 +4,6 @@ use native.Mathlib.Omega.{arith}
 use Rattle.moves.specs.Runs.{end_of}
 use Rattle.moves.specs.Frames.{lands}
 use Rattle.moves.specs.declared.Running.{Running}
-use borrow.Author.Rules.{rules}
 use Rattle.placing.proofs.land.Goals as goal
 
 pub settle-requires : goal.settle-requires

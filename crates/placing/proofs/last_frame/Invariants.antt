@@ -1,14 +1,9 @@
 -- `placing::last_frame` meets its contract: `Walks` says where the walk ends. Assumes nothing.
-use mathlib.Core.Path.{refl, ap}
 use Prim.Native.Nat.{◌+◌, ◌-◌}
-use native.Mathlib.Omega.{arith}
 use lib.ListN.{drop}
 use Rattle.cells.specs.Cells.{cells}
 use Rattle.memory.specs.View.{frames_size}
-use Rattle.moves.specs.Runs.{end_of}
-use Rattle.moves.specs.Objects.{Walks, walks_on, walks_fits, walks_done}
-use Rattle.moves.specs.declared.Running.{Running}
-use borrow.Author.Rules.{rules}
+use Rattle.moves.specs.Objects.{Walks}
 use Rattle.placing.proofs.last_frame.Given as goal
 
 abbrev pub invariant-loop-left : goal.invariant-loop-left

@@ -2,7 +2,6 @@
 use mathlib.Core.Path.{refl}
 use native.Mathlib.Omega.{arith}
 use Rattle.moves.specs.Objects.{open_fits, back_fits, resumed}
-use borrow.Author.Rules.{rules}
 use Rattle.placing.proofs.put_back.Goals as goal
 
 pub kept-g-requires : goal.kept-g-requires

@@ -4,7 +4,6 @@ use native.Mathlib.Omega.{arith}
 use Rattle.moves.specs.Runs.{end_of, with_counts}
 use Rattle.moves.specs.Frames.{receives}
 use Rattle.moves.specs.declared.Running.{Running}
-use borrow.Author.Rules.{rules}
 use Rattle.placing.proofs.receive.Goals as goal
 
 pub clear_handlers-h-requires : goal.clear_handlers-h-requires

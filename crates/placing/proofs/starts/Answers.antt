@@ -1,9 +1,7 @@
 -- `placing::starts` meets its contract: the loop keeps `Starting` for the frames that it has passed. Assumes nothing.
 use mathlib.Core.Path.{refl}
-use Prim.Native.Nat.{◌-◌, ◌≤◌}
 use native.Mathlib.Omega.{arith}
-use Rattle.cells.specs.Cells.{cells}
-use Rattle.moves.specs.Starts.{Starting, starting_none, starting_fits, starting_next, starting_all}
+use Rattle.moves.specs.Starts.{starting_none, starting_fits, starting_next, starting_all}
 use borrow.Author.Rules.{rules}
 use Rattle.placing.proofs.starts.Goals as goal
 

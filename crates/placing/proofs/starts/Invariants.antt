@@ -1,10 +1,7 @@
 -- `placing::starts` meets its contract: the loop keeps `Starting` for the frames that it has passed. Assumes nothing.
-use mathlib.Core.Path.{refl}
 use Prim.Native.Nat.{◌-◌, ◌≤◌}
-use native.Mathlib.Omega.{arith}
 use Rattle.cells.specs.Cells.{cells}
-use Rattle.moves.specs.Starts.{Starting, starting_none, starting_fits, starting_next, starting_all}
-use borrow.Author.Rules.{rules}
+use Rattle.moves.specs.Starts.{Starting}
 use Rattle.placing.proofs.starts.Given as goal
 
 abbrev pub invariant-loop-i : goal.invariant-loop-i

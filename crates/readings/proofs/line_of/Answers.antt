@@ -1,9 +1,6 @@
 -- `readings::line_of` meets its contract: the loop keeps `Seeking`. Assumes nothing.
 use native.Mathlib.Omega.{arith}
-use Prim.Native.Nat.{◌-◌}
-use mathlib.Core.Logic.{⊎_elim}
-use lib.ListN.{length}
-use Rattle.readings.specs.Lines.{Seeking, seeking_first, seeking_line, seeking_byte, line_found, line_missing}
+use Rattle.readings.specs.Lines.{seeking_first, seeking_line, seeking_byte, line_found, line_missing}
 use Rattle.readings.proofs.line_of.Goals as goal
 use Rattle.readings.proofs.line_of.Goals.{then-page-i-eq10+else-left-eq0, else-page-i-eq10}
 

@@ -1,9 +1,7 @@
 -- `readings::line_of` meets its contract: the loop keeps `Seeking`. Assumes nothing.
-use native.Mathlib.Omega.{arith}
 use Prim.Native.Nat.{◌-◌}
-use mathlib.Core.Logic.{⊎_elim}
 use lib.ListN.{length}
-use Rattle.readings.specs.Lines.{Seeking, seeking_first, seeking_line, seeking_byte, line_found, line_missing}
+use Rattle.readings.specs.Lines.{Seeking}
 use Rattle.readings.proofs.line_of.Given as goal
 
 abbrev pub invariant-loop-i : goal.invariant-loop-i

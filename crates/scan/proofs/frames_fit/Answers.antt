@@ -1,9 +1,6 @@
 -- `scan::frames_fit` meets its contract. Assumes nothing.
 use native.Mathlib.Omega.{arith}
-use Prim.Native.Nat.{◌-◌}
-use Rattle.cells.specs.Cells.{cells}
-use Rattle.scan.specs.Tables.{program_in}
-use Rattle.scan.specs.Frames.{Frames, frames_none, frames_bad, frames_more, frames_all}
+use Rattle.scan.specs.Frames.{frames_none, frames_bad, frames_more, frames_all}
 use Rattle.scan.proofs.frames_fit.Goals as goal
 
 pub loop-i-init : goal.loop-i-init

@@ -1,9 +1,8 @@
 -- `scan::frames_fit` meets its contract. Assumes nothing.
-use native.Mathlib.Omega.{arith}
 use Prim.Native.Nat.{◌-◌}
 use Rattle.cells.specs.Cells.{cells}
 use Rattle.scan.specs.Tables.{program_in}
-use Rattle.scan.specs.Frames.{Frames, frames_none, frames_bad, frames_more, frames_all}
+use Rattle.scan.specs.Frames.{Frames}
 use Rattle.scan.proofs.frames_fit.Given as goal
 
 abbrev pub invariant-loop-i : goal.invariant-loop-i

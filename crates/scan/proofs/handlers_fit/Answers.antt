@@ -1,9 +1,6 @@
 -- `scan::handlers_fit` meets its contract. Assumes nothing.
 use native.Mathlib.Omega.{arith}
-use Prim.Native.Nat.{◌-◌}
-use Rattle.cells.specs.Cells.{cells}
-use Rattle.scan.specs.Tables.{program_in}
-use Rattle.scan.specs.Passed.{Handlers, handlers_none, handlers_effect, handlers_target, handlers_more, handlers_all}
+use Rattle.scan.specs.Passed.{handlers_none, handlers_effect, handlers_target, handlers_more, handlers_all}
 use Rattle.scan.proofs.handlers_fit.Goals as goal
 
 pub loop-i-init : goal.loop-i-init

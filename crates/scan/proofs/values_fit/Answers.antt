@@ -2,13 +2,8 @@
 use native.Mathlib.Omega.{arith}
 use borrow.Author.Rules.{rules}
 use mathlib.Core.Path.{refl}
-use mathlib.Core.Logic.{⊎_elim}
-use Prim.Native.Nat.{◌-◌}
-use Rattle.cells.specs.Cells.{cells}
-use Rattle.memory.specs.Tests.{value_fits}
-use Rattle.scan.specs.Tables.{program_in}
 use Rattle.scan.specs.Values.{told, plain_fits}
-use Rattle.scan.specs.Passed.{Passed, passed_none, passed_not, passed_more, passed_all}
+use Rattle.scan.specs.Passed.{passed_none, passed_not, passed_more, passed_all}
 use Rattle.std.proofs.Common.{ap, not}
 use Rattle.scan.proofs.values_fit.Goals as goal
 use Rattle.scan.proofs.values_fit.Goals.{then-not-is_plain+else-not-value_fits, else-not-is_plain}

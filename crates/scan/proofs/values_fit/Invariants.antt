@@ -1,14 +1,9 @@
 -- `scan::values_fit` meets its contract. Assumes nothing.
-use native.Mathlib.Omega.{arith}
-use borrow.Author.Rules.{rules}
-use mathlib.Core.Path.{refl}
-use mathlib.Core.Logic.{⊎_elim}
 use Prim.Native.Nat.{◌-◌}
 use Rattle.cells.specs.Cells.{cells}
 use Rattle.memory.specs.Tests.{value_fits}
 use Rattle.scan.specs.Tables.{program_in}
-use Rattle.scan.specs.Values.{told, plain_fits}
-use Rattle.scan.specs.Passed.{Passed, passed_none, passed_not, passed_more, passed_all}
+use Rattle.scan.specs.Passed.{Passed}
 use Rattle.scan.proofs.values_fit.Given as goal
 
 abbrev pub invariant-loop-i : goal.invariant-loop-i

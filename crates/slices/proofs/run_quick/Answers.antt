@@ -1,7 +1,6 @@
 -- `slices::run_quick` meets its contract: the invariant is that of `run_slice`, with state block and store as they were; the measure is the ticks left. Assumes nothing.
-use borrow.Author.Rules.{rules}
 use native.Mathlib.Omega.{arith}
-use Rattle.slices.specs.Looping.{code_low, Looping, looping_first, opcode_from, place_low, step_ready, loops_goes, loops_jumps, quickens, quickens_other}
+use Rattle.slices.specs.Looping.{code_low, looping_first, opcode_from, place_low, step_ready, loops_goes, loops_jumps, quickens, quickens_other}
 use Rattle.slices.proofs.run_quick.Goals as goal
 
 pub overflow_mul-code : goal.overflow_mul-code

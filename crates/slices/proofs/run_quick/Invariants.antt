@@ -1,7 +1,5 @@
 -- `slices::run_quick` meets its contract: the invariant is that of `run_slice`, with state block and store as they were; the measure is the ticks left. Assumes nothing.
-use borrow.Author.Rules.{rules}
-use native.Mathlib.Omega.{arith}
-use Rattle.slices.specs.Looping.{code_low, Looping, looping_first, opcode_from, place_low, step_ready, loops_goes, loops_jumps, quickens, quickens_other}
+use Rattle.slices.specs.Looping.{Looping}
 use Rattle.slices.proofs.run_quick.Given as goal
 
 abbrev pub invariant-loop-ticks : goal.invariant-loop-ticks

@@ -1,7 +1,6 @@
 -- `slices::run_slice` meets its contract: the invariant says that what is left of the run, after the opcodes taken, is the whole run; the measure is the ticks left. Assumes nothing.
-use borrow.Author.Rules.{rules}
 use native.Mathlib.Omega.{arith}
-use Rattle.slices.specs.Looping.{Looping, looping_first, some_sliceable, opcode_there, place_low, step_ready, loops_on, loops_jumped, quick_less, loops_quick, ends_spent, ends_throws, ends_refused, ends_closes, ends_paused}
+use Rattle.slices.specs.Looping.{looping_first, some_sliceable, opcode_there, place_low, step_ready, loops_on, loops_jumped, quick_less, loops_quick, ends_spent, ends_throws, ends_refused, ends_closes, ends_paused}
 use Rattle.slices.proofs.run_slice.Goals as goal
 
 pub loop-ticks-init : goal.loop-ticks-init

@@ -1,6 +1,5 @@
 -- `states::frames` meets its contract. Assumes nothing.
 use Rattle.states.specs.Worlds.{frames_read}
-use borrow.Author.Rules.{rules}
 use Rattle.states.proofs.frames.Goals as goal
 
 pub returns : goal.returns

@@ -1,6 +1,5 @@
 -- `states::result_kind` meets its contract. Assumes nothing.
 use Rattle.states.specs.Worlds.{kind_read}
-use borrow.Author.Rules.{rules}
 use Rattle.states.proofs.result_kind.Goals as goal
 
 pub returns : goal.returns

@@ -1,6 +1,5 @@
 -- `states::set_builtin` meets its contract. Assumes nothing.
 use Rattle.states.specs.Worlds.{builtin_set}
-use borrow.Author.Rules.{rules}
 use Rattle.states.proofs.set_builtin.Goals as goal
 
 pub returns : goal.returns

@@ -1,6 +1,5 @@
 -- `states::set_counts` meets its contract. Assumes nothing.
 use Rattle.states.specs.Worlds.{counts_set}
-use borrow.Author.Rules.{rules}
 use Rattle.states.proofs.set_counts.Goals as goal
 
 pub returns : goal.returns

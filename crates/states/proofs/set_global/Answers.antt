@@ -1,6 +1,5 @@
 -- `states::set_global` meets its contract. Assumes nothing.
 use Rattle.states.specs.Worlds.{global_set}
-use borrow.Author.Rules.{rules}
 use Rattle.states.proofs.set_global.Goals as goal
 
 pub returns : goal.returns

@@ -1,6 +1,5 @@
 -- `states::set_result` meets its contract. Assumes nothing.
 use Rattle.states.specs.Worlds.{result_set}
-use borrow.Author.Rules.{rules}
 use Rattle.states.proofs.set_result.Goals as goal
 
 pub returns : goal.returns

@@ -1,6 +1,5 @@
 -- `states::set_turn` meets its contract. Assumes nothing.
 use Rattle.states.specs.Worlds.{turn_set}
-use borrow.Author.Rules.{rules}
 use Rattle.states.proofs.set_turn.Goals as goal
 
 pub returns : goal.returns

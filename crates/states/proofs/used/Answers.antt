@@ -1,6 +1,5 @@
 -- `states::used` meets its contract. Assumes nothing.
 use Rattle.states.specs.Worlds.{used_read}
-use borrow.Author.Rules.{rules}
 use Rattle.states.proofs.used.Goals as goal
 
 pub returns : goal.returns

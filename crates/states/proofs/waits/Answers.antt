@@ -1,6 +1,5 @@
 -- `states::waits` meets its contract. Assumes nothing.
 use Rattle.states.specs.Worlds.{wait_read}
-use borrow.Author.Rules.{rules}
 use Rattle.states.proofs.waits.Goals as goal
 
 pub returns : goal.returns

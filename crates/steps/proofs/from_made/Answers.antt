@@ -1,5 +1,4 @@
 -- `steps::from_made` meets its contract. Assumes nothing.
-use borrow.Author.Rules.{rules}
 use Rattle.steps.specs.Families.{made_on, made_refused}
 use Rattle.steps.proofs.from_made.Goals as goal
 

@@ -1,5 +1,4 @@
 -- `steps::from_next` meets its contract. Assumes nothing.
-use borrow.Author.Rules.{rules}
 use Rattle.steps.specs.Families.{next_goes, next_jumps, next_throws, next_stops}
 use Rattle.steps.proofs.from_next.Goals as goal
 

@@ -1,5 +1,4 @@
 -- `steps::jump_opcode` meets its contract. Assumes nothing.
-use borrow.Author.Rules.{rules}
 use mathlib.Core.Path.{refl, ap}
 use Rattle.steps.specs.Families.{numbered, does_as, number_does, plain_does, nop_does}
 use Rattle.steps.specs.declared.Jump.TheVariants.{Plain, PopIfNull, PopIf, IfOrPop, RegisterHandler, CheckEffect, Nop}

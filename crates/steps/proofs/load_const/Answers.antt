@@ -1,5 +1,4 @@
 -- `steps::load_const` meets its contract. Assumes nothing.
-use borrow.Author.Rules.{rules}
 use mathlib.Core.Path.{refl}
 use Rattle.steps.specs.Families.{const_looks, const_loads, inner_looks, closable, closure_steps, const_steps}
 use Rattle.steps.proofs.load_const.Goals as goal

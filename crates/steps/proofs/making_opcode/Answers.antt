@@ -1,5 +1,4 @@
 -- `steps::making_opcode` meets its contract. Assumes nothing.
-use borrow.Author.Rules.{rules}
 use mathlib.Core.Path.{ap}
 use mathlib.Core.Logic.{inr}
 use Rattle.steps.specs.Families.{numbered, ready_fits, const_asks, global_looks, global_named, list_asks, const_made, global_made, list_made}

@@ -1,5 +1,4 @@
 -- `steps::operator_opcode` meets its contract. Assumes nothing.
-use borrow.Author.Rules.{rules}
 use mathlib.Core.Path.{refl, ap}
 use Rattle.steps.specs.Families.{numbered, number_does}
 use Rattle.steps.specs.declared.Operator.TheVariants.{Unary, Binary, TypeCheck}

@@ -1,5 +1,4 @@
 -- `steps::quick_const` meets its contract. Assumes nothing.
-use borrow.Author.Rules.{rules}
 use mathlib.Core.Path.{refl}
 use native.Mathlib.Omega.{arith}
 use Rattle.steps.specs.Families.{const_looks, const_loads}

@@ -1,5 +1,4 @@
 -- `steps::quick_next` meets its contract. Assumes nothing.
-use borrow.Author.Rules.{rules}
 use Rattle.steps.specs.Quickly.{quick_goes, quick_jumps, quick_throws, quick_stops}
 use Rattle.steps.proofs.quick_next.Goals as goal
 

@@ -1,5 +1,4 @@
 -- `steps::quick_step` meets its contract. Assumes nothing.
-use borrow.Author.Rules.{rules}
 use native.Mathlib.Omega.{arith}
 use Rattle.steps.specs.Families.{ready_fits, local_loads, local_stores, const_asks}
 use Rattle.steps.specs.Quickly.{quick_number, quick_pop, quick_jump, quick_made, quick_other}

@@ -1,5 +1,4 @@
 -- `steps::stack_opcode` meets its contract. Assumes nothing.
-use borrow.Author.Rules.{rules}
 use mathlib.Core.Path.{ap}
 use mathlib.Core.Logic.{inl}
 use Rattle.steps.specs.Families.{numbered, ready_fits, local_loads, local_stores, upvalue_loads, global_looks, global_named, pop_stays, number_stays, load_global_stays, load_upvalue_stays}

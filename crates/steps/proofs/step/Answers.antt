@@ -1,5 +1,4 @@
 -- `steps::step` meets its contract. Assumes nothing.
-use borrow.Author.Rules.{rules}
 use Rattle.steps.specs.Families.{numbered, ready_fits, stays_next, does_next, closes_steps, left_out_steps}
 use Rattle.steps.proofs.step.Goals as goal
 

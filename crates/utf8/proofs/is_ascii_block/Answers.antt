@@ -1,7 +1,5 @@
 -- `utf8::is_ascii_block` meets its contract. The loop carries `Joined`. Assumes nothing.
 use native.Mathlib.Omega.{arith}
-use Prim.Native.Nat.{◌-◌}
-use Rattle.utf8.specs.Laws.{Joined}
 use Rattle.utf8.proofs.Laws.{joined_none, joined_more, joined_all}
 use Rattle.utf8.proofs.is_ascii_block.Goals as goal
 

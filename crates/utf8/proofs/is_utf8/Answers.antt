@@ -1,8 +1,5 @@
 -- `utf8::is_utf8` meets its contract. The loop carries `Passed`. Assumes nothing.
-use Prim.Native.Nat.{◌-◌}
 use native.Mathlib.Omega.{arith}
-use lib.ListN.{length}
-use Rattle.utf8.specs.Ascii.{Passed}
 use Rattle.utf8.proofs.Laws.{pass_none, pass_run, pass_char, char_inside, pass_none_starts, pass_not_followed, pass_true}
 use Rattle.utf8.proofs.is_utf8.Goals as goal
 

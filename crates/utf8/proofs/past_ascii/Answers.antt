@@ -1,8 +1,5 @@
 -- `utf8::past_ascii` meets its contract. The loop carries `Passed`. Assumes nothing.
 use native.Mathlib.Omega.{arith}
-use Prim.Native.Nat.{◌-◌}
-use lib.ListN.{length}
-use Rattle.utf8.specs.Ascii.{Passed}
 use Rattle.utf8.proofs.Laws.{pass_one}
 use Rattle.utf8.proofs.past_ascii.Goals as goal
 

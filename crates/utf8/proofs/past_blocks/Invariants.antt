@@ -1,9 +1,7 @@
 -- `utf8::past_blocks` meets its contract. The loop carries `Passed`. Assumes nothing.
-use native.Mathlib.Omega.{arith}
 use Prim.Native.Nat.{◌-◌}
 use lib.ListN.{length}
 use Rattle.utf8.specs.Ascii.{Passed}
-use Rattle.utf8.proofs.Laws.{pass_none, pass_block}
 use Rattle.utf8.proofs.past_blocks.Given as goal
 
 abbrev pub invariant-loop-i : goal.invariant-loop-i

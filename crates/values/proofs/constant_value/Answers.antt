@@ -1,5 +1,4 @@
 -- `values::constant_value` meets its contract. Assumes nothing.
-use borrow.Author.Rules.{rules}
 use Rattle.values.specs.Constants.{eight_int, eight_float, is_bool, is_int, is_float, is_str, is_bytes, is_effect_lem, is_null_lem}
 use Rattle.values.proofs.constant_value.Goals as goal
 

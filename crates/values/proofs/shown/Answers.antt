@@ -1,5 +1,4 @@
 -- `values::shown` meets its contract. Assumes nothing.
-use borrow.Author.Rules.{rules}
 use Rattle.values.specs.Errors.{shows_value, shows_none, shows_message}
 use Rattle.values.proofs.shown.Goals as goal
 
