@@ -107,13 +107,7 @@ pub fn lucia_set_global(
     settings::set_global(image, state, live, store, number, low, high)
 }
 
-pub fn lucia_get_global(
-    image: &[u8],
-    state: &[u8],
-    live: &[u8],
-    store: &[u8],
-    number: u32,
-) -> Got
+pub fn lucia_get_global(image: &[u8], state: &[u8], live: &[u8], store: &[u8], number: u32) -> Got
     ensures { Allows image.now (lucia_get_global number) (memory state.now live.now store.now) result (memory state.now live.now store.now) }
 {
     readings::get_global(image, state, live, store, number)
@@ -133,13 +127,7 @@ pub fn lucia_set_builtin(
     settings::set_builtin(image, state, live, store, number, low, high)
 }
 
-pub fn lucia_get_builtin(
-    image: &[u8],
-    state: &[u8],
-    live: &[u8],
-    store: &[u8],
-    number: u32,
-) -> Got
+pub fn lucia_get_builtin(image: &[u8], state: &[u8], live: &[u8], store: &[u8], number: u32) -> Got
     ensures { Allows image.now (lucia_get_builtin number) (memory state.now live.now store.now) result (memory state.now live.now store.now) }
 {
     readings::get_builtin(image, state, live, store, number)

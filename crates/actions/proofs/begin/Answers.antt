@@ -1,10 +1,9 @@
 -- `actions::begin` meets its contract: the loop keeps `Passed` for the frames that it has passed. Assumes nothing.
 use mathlib.Core.Path.{refl}
-use Prim.Native.Nat.{◌-◌, ◌≤◌}
 use native.Mathlib.Omega.{arith}
 use Rattle.cells.specs.Cells.{cells}
 use Rattle.cells.specs.CellsLaws.{length_cells}
-use Rattle.actions.specs.Tables.{Passed, passed_none, passed_fits, passed_next, passed_all}
+use Rattle.actions.specs.Tables.{passed_none, passed_fits, passed_next, passed_all}
 use borrow.Author.Rules.{rules}
 use Rattle.actions.proofs.begin.Goals as goal
 
@@ -46,9 +45,9 @@ loop-i-smaller c = omega arith
 
 pub loop-i-preserved : goal.loop-i-preserved
 loop-i-preserved c = (
-      passed_next c.loop-i.invariant.0 c.open.ensures.0 c.end-next.ensures (omega (arith, c.loop-i-test.true, c.requires.table)) refl,
-      omega (arith, c.loop-i-test.true),
-    )
+  passed_next c.loop-i.invariant.0 c.open.ensures.0 c.end-next.ensures (omega (arith, c.loop-i-test.true, c.requires.table)) refl,
+  omega (arith, c.loop-i-test.true),
+)
 
 pub shape_of-starts : goal.shape_of-starts
 shape_of-starts c = c.loop-i.invariant.0.begun.len

@@ -1,11 +1,7 @@
 -- `actions::begin` meets its contract: the loop keeps `Passed` for the frames that it has passed. Assumes nothing.
-use mathlib.Core.Path.{refl}
 use Prim.Native.Nat.{◌-◌, ◌≤◌}
-use native.Mathlib.Omega.{arith}
 use Rattle.cells.specs.Cells.{cells}
-use Rattle.cells.specs.CellsLaws.{length_cells}
-use Rattle.actions.specs.Tables.{Passed, passed_none, passed_fits, passed_next, passed_all}
-use borrow.Author.Rules.{rules}
+use Rattle.actions.specs.Tables.{Passed}
 use Rattle.actions.proofs.begin.Given as goal
 
 abbrev pub invariant-loop-i : goal.invariant-loop-i

@@ -3,7 +3,6 @@ use mathlib.Core.Path.{refl, sym, ◌∙◌}
 use native.Mathlib.Omega.{arith}
 use Rattle.cells.specs.CellsLaws.{length_cells}
 use Rattle.actions.specs.Carried.{starts_needs, resumes_needs, handles_needs, catches_needs, unhandled_needs, receives_numbers, receives_small, receives_needs, starts_leaves, resumes_leaves, handles_leaves, catches_leaves, unhandled_leaves, fails_leaves, receives_leaves, returns_leaves, stays_leaves}
-use borrow.Author.Rules.{rules}
 use Rattle.actions.proofs.carry.Goals as goal
 
 pub start_frame-requires : goal.start_frame-requires

@@ -1,7 +1,6 @@
 -- `actions::start_frame` meets its contract: `StartFits` has the numbers, `starts_frame` the machine. Assumes nothing.
 use native.Mathlib.Omega.{arith}
 use Rattle.actions.specs.Moved.{start_fits, pushed_fits, starts_frame}
-use borrow.Author.Rules.{rules}
 use Rattle.actions.proofs.start_frame.Goals as goal
 
 pub list_rest-requires : goal.list_rest-requires

@@ -2,7 +2,6 @@
 use native.Mathlib.Omega.{arith}
 use Rattle.acts.specs.ActedLaws.{below_judges, below_settles, below_carries, below_refused, below_done, below_failed}
 use Rattle.acts.specs.Eased.{below_easy, below_few, below_stands, below_eased}
-use borrow.Author.Rules.{rules}
 use Rattle.acts.proofs.below.Goals as goal
 
 pub easy-more-requires : goal.easy-more-requires

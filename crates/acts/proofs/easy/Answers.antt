@@ -2,7 +2,6 @@
 use native.Mathlib.Omega.{arith}
 use Rattle.cells.specs.CellsLaws.{length_cells}
 use Rattle.acts.specs.Eased.{eases_none, easy_reads, easy_size, eases}
-use borrow.Author.Rules.{rules}
 use Rattle.acts.proofs.easy.Goals as goal
 
 pub number-count-requires : goal.number-count-requires

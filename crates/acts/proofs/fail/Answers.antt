@@ -1,6 +1,5 @@
 -- `acts::fail` meets its contract: laws of ThrowLaws, one for each need and each return. Assumes nothing.
 use Rattle.acts.specs.ThrowLaws.{fail_lies, fail_ends, fail_over, fail_refused, fail_done, fail_failed}
-use borrow.Author.Rules.{rules}
 use Rattle.acts.proofs.fail.Goals as goal
 
 pub throw_error-plan-requires : goal.throw_error-plan-requires

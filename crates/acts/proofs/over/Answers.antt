@@ -2,7 +2,6 @@
 use native.Mathlib.Omega.{arith}
 use Rattle.acts.specs.ActedLaws.{over_judges, over_settles, over_settles_left, over_carries, over_refused, over_done, over_failed}
 use Rattle.acts.specs.Eased.{over_easy, over_few, over_stands, over_eased}
-use borrow.Author.Rules.{rules}
 use Rattle.acts.proofs.over.Goals as goal
 
 pub easy-more-requires : goal.easy-more-requires

@@ -2,7 +2,6 @@
 use native.Mathlib.Omega.{arith}
 use Rattle.acts.specs.ActedLaws.{below_settles}
 use Rattle.acts.specs.Received.{receive_counts, receive_refused, receive_numbers, receive_small, receive_needs, receive_done}
-use borrow.Author.Rules.{rules}
 use Rattle.acts.proofs.receive.Goals as goal
 
 pub received-after-requires : goal.received-after-requires

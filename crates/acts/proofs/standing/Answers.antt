@@ -6,7 +6,6 @@ use Rattle.cells.specs.CellsLaws.{length_cells}
 use Rattle.moves.specs.Runs.{end_of}
 use Rattle.moves.specs.declared.Running.{Running}
 use Rattle.acts.specs.Eased.{standing_is}
-use borrow.Author.Rules.{rules}
 use Rattle.acts.proofs.standing.Goals as goal
 
 pub open-g-requires : goal.open-g-requires

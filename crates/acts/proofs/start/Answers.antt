@@ -1,7 +1,6 @@
 -- `acts::start` meets its contract: the laws of a plan over the running frame, for the plan `Starts`. Assumes nothing.
 use Rattle.acts.specs.ActedLaws.{over_settles, over_settles_left}
 use Rattle.acts.specs.Started.{start_counts, start_refused, start_needs, start_done}
-use borrow.Author.Rules.{rules}
 use Rattle.acts.proofs.start.Goals as goal
 
 pub started-after-requires : goal.started-after-requires

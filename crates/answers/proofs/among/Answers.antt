@@ -1,9 +1,6 @@
 -- `answers::among` meets its contract. Assumes nothing.
 use native.Mathlib.Omega.{arith}
-use Prim.Native.Nat.{◌-◌}
-use Rattle.cells.specs.Cells.{cells}
-use Rattle.scan.specs.Tables.{program_in}
-use Rattle.answers.specs.Different.{Missed, missed_none, missed_more, among_here, among_none}
+use Rattle.answers.specs.Different.{missed_none, missed_more, among_here, among_none}
 use Rattle.answers.proofs.among.Goals as goal
 
 pub loop-j-init : goal.loop-j-init

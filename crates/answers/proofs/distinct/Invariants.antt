@@ -1,10 +1,9 @@
 -- `answers::distinct` meets its contract: what is kept and what is left come to the whole. Assumes nothing.
-use native.Mathlib.Omega.{arith}
 use Prim.Native.Nat.{◌-◌}
 use lib.ListN.{length}
 use Rattle.cells.specs.Cells.{cells}
 use Rattle.scan.specs.Tables.{program_in}
-use Rattle.answers.specs.Different.{Sorted, sorted_none, sorted_more, distinct_many, distinct_few}
+use Rattle.answers.specs.Different.{Sorted}
 use Rattle.answers.proofs.distinct.Given as goal
 
 abbrev pub invariant-loop-i : goal.invariant-loop-i

@@ -1,8 +1,6 @@
 -- `answers::set_handlers` meets its contract: the first j of the kept effects are its handlers. Assumes nothing.
-use Prim.Native.Nat.{◌-◌}
 use native.Mathlib.Omega.{arith}
-use Rattle.cells.specs.Cells.{cells}
-use Rattle.answers.specs.Frames.{Adding, host_fits, open_fits, adding_none, adding_there, adding_fits, adding_more, adding_settles, rehandles}
+use Rattle.answers.specs.Frames.{host_fits, open_fits, adding_none, adding_there, adding_fits, adding_more, adding_settles, rehandles}
 use Rattle.answers.proofs.set_handlers.Goals as goal
 
 pub open-requires : goal.open-requires

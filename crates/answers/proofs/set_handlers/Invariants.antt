@@ -1,8 +1,7 @@
 -- `answers::set_handlers` meets its contract: the first j of the kept effects are its handlers. Assumes nothing.
 use Prim.Native.Nat.{◌-◌}
-use native.Mathlib.Omega.{arith}
 use Rattle.cells.specs.Cells.{cells}
-use Rattle.answers.specs.Frames.{Adding, host_fits, open_fits, adding_none, adding_there, adding_fits, adding_more, adding_settles, rehandles}
+use Rattle.answers.specs.Frames.{Adding}
 use Rattle.answers.proofs.set_handlers.Given as goal
 
 abbrev pub invariant-loop-j : goal.invariant-loop-j

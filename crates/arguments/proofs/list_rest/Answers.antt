@@ -1,7 +1,6 @@
 -- `arguments::list_rest` meets its contract. Assumes nothing.
 use native.Mathlib.Omega.{arith}
 use Rattle.arguments.specs.Laws.{rest_fits, lists, lists_none}
-use borrow.Author.Rules.{rules}
 use Rattle.arguments.proofs.list_rest.Goals as goal
 
 pub overflow_sub-room : goal.overflow_sub-room

@@ -1,6 +1,5 @@
 -- `arguments::push_args` meets its contract: the list of the rest is pushed behind the first ones. Assumes nothing.
 use Rattle.arguments.specs.Laws.{first_fits, last_fits, all_fits, pushes_variadic, pushes_all}
-use borrow.Author.Rules.{rules}
 use Rattle.arguments.proofs.push_args.Goals as goal
 
 pub push_from-h-requires : goal.push_from-h-requires

@@ -1,6 +1,5 @@
 -- `arguments::push_from` meets its contract. Assumes nothing.
 use Rattle.arguments.specs.Laws.{pushes_from}
-use borrow.Author.Rules.{rules}
 use Rattle.arguments.proofs.push_from.Goals as goal
 
 pub returns : goal.returns

@@ -1,5 +1,4 @@
 -- `callbacks::reply` meets its contract. Assumes nothing.
-use borrow.Author.Rules.{rules}
 use mathlib.Core.Path.{refl}
 use native.Mathlib.Omega.{arith}
 use Rattle.callbacks.specs.ReplyLaws.{frames_few, base_low, reply_layable, reply_leavable, reply_plannable, reply_finishable, reply_refused, reply_copies, reply_done, reply_too_many}

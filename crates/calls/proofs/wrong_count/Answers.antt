@@ -1,6 +1,5 @@
 -- `calls::wrong_count` meets its contract. Assumes nothing.
-use mathlib.Core.Logic.{inl, inr, ⊎_elim}
-use borrow.Author.Rules.{rules}
+use mathlib.Core.Logic.{inl, inr}
 use Rattle.calls.specs.Performing.{wrong_shown}
 use Rattle.calls.proofs.wrong_count.Goals as goal
 use Rattle.calls.proofs.wrong_count.Goals.{then-p, else-p}

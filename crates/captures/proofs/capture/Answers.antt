@@ -1,7 +1,6 @@
 -- `captures::capture` meets its contract: `numbers` has what there is room for, `captures_all` the rest. Assumes nothing.
 use native.Mathlib.Omega.{arith}
 use Rattle.captures.specs.CaptureLaws.{numbers, capture_enters, captures_all}
-use borrow.Author.Rules.{rules}
 use Rattle.captures.proofs.capture.Goals as goal
 
 pub overflow_add-above : goal.overflow_add-above

@@ -1,7 +1,6 @@
 -- `captures::catch` meets its contract. Assumes nothing.
 use native.Mathlib.Omega.{arith}
 use Rattle.captures.specs.CaptureLaws.{catchable, captures_error}
-use borrow.Author.Rules.{rules}
 use Rattle.captures.proofs.catch.Goals as goal
 
 pub capture-requires : goal.capture-requires

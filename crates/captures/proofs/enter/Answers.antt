@@ -1,6 +1,5 @@
 -- `captures::enter` meets its contract: the tag of the frame tells which of the two it is. Assumes nothing.
 use Rattle.captures.specs.EnteredLaws.{enter_lucia, enter_callback, enters_lucia, enters_callback}
-use borrow.Author.Rules.{rules}
 use Rattle.captures.proofs.enter.Goals as goal
 
 pub enter_lucia-requires : goal.enter_lucia-requires

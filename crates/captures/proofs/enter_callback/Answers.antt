@@ -2,7 +2,6 @@
 use native.Mathlib.Omega.{arith}
 use Rattle.cells.specs.CellsLaws.{length_cells}
 use Rattle.captures.specs.EnteredLaws.{kept_fits, cleared_fits, one_fits, two_fits, all_fits, callback_enters}
-use borrow.Author.Rules.{rules}
 use Rattle.captures.proofs.enter_callback.Goals as goal
 
 pub clear_handlers-a-requires : goal.clear_handlers-a-requires

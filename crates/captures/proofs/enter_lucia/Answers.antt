@@ -2,7 +2,6 @@
 use native.Mathlib.Omega.{arith}
 use Rattle.cells.specs.CellsLaws.{length_cells}
 use Rattle.captures.specs.EnteredLaws.{lucia_kept, handler_fits_lem, kept_fits, cleared_fits, one_fits, parsed_fits, settle_fits, lucia_enters}
-use borrow.Author.Rules.{rules}
 use Rattle.captures.proofs.enter_lucia.Goals as goal
 
 pub handler_target-target-requires : goal.handler_target-target-requires

@@ -3,7 +3,6 @@ use native.Mathlib.Omega.{arith}
 use Rattle.closing.specs.CallLaws.{call_few, call_settles, call_ends, call_tops, call_leaves, call_copies, call_fits, call_lent, call_lends, call_given, left_ends, call_fails, call_failed, call_calls, call_over_lem, call_closes}
 use Rattle.calls.specs.Calling.{call_begins}
 use mathlib.Core.Bool.{true}
-use borrow.Author.Rules.{rules}
 use Rattle.std.proofs.Common.{ap, not}
 use Rattle.closing.proofs.call.Goals as goal
 

@@ -1,7 +1,6 @@
 -- `closing::effect_callback` meets its contract: laws of CallbackLaws, with the facts in hand given by their paths. Assumes nothing.
 use native.Mathlib.Omega.{arith}
 use Rattle.closing.specs.CallbackLaws.{back_some, back_table, back_numbers, back_opens, back_gets, back_ends, back_copies, back_fits, back_lent, back_lends, back_lies, back_below, back_performs}
-use borrow.Author.Rules.{rules}
 use Rattle.closing.proofs.effect_callback.Goals as goal
 
 pub overflow_sub-under : goal.overflow_sub-under

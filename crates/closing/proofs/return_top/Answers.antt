@@ -1,7 +1,6 @@
 -- `closing::return_top` meets its contract: laws of ReturnLaws, one for each need and each return. Assumes nothing.
 use Rattle.calls.specs.Calling.{return_more}
 use Rattle.closing.specs.ReturnLaws.{return_few, return_settles, return_some, return_tops, return_below, return_closes}
-use borrow.Author.Rules.{rules}
 use Rattle.closing.proofs.return_top.Goals as goal
 
 pub settle-requires : goal.settle-requires

@@ -2,7 +2,6 @@
 use native.Mathlib.Omega.{arith}
 use Rattle.closing.specs.CallLaws.{call_few, call_settles, call_ends, call_some, call_tops, call_leaves, call_copies, call_fits, call_lent, call_lends, call_fails, call_failed, tail_calls_lem, tail_below, tail_closes}
 use mathlib.Core.Bool.{false}
-use borrow.Author.Rules.{rules}
 use Rattle.std.proofs.Common.{ap, not}
 use Rattle.closing.proofs.tail_call.Goals as goal
 

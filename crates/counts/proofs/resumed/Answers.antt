@@ -2,7 +2,6 @@
 use native.Mathlib.Omega.{arith}
 use Rattle.cells.specs.CellsLaws.{length_cells}
 use Rattle.counts.specs.ReadLaws.{walk_fits, open_fits, end_fits, resumed_by}
-use borrow.Author.Rules.{rules}
 use Rattle.counts.proofs.resumed.Goals as goal
 
 pub number-count-requires : goal.number-count-requires

@@ -1,5 +1,4 @@
 -- `executor::lucia_answer` meets its contract. Assumes nothing.
-use borrow.Author.Rules.{rules}
 use Rattle.executor.specs.Subjects.{answer_of_lem}
 use Rattle.executor.proofs.lucia_answer.Goals as goal
 

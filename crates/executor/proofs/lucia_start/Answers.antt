@@ -1,5 +1,4 @@
 -- `executor::lucia_start` meets its contract. Assumes nothing.
-use borrow.Author.Rules.{rules}
 use Rattle.executor.specs.Subjects.{start_of}
 use Rattle.executor.proofs.lucia_start.Goals as goal
 

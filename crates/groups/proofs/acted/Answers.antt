@@ -1,5 +1,4 @@
 -- `groups::acted` meets its contract. Assumes nothing.
-use borrow.Author.Rules.{rules}
 use Rattle.groups.specs.RunLaws.{acted_refused, acted_done, acted_failed}
 use Rattle.groups.proofs.acted.Goals as goal
 

@@ -1,5 +1,4 @@
 -- `groups::charged` meets its contract. Assumes nothing.
-use borrow.Author.Rules.{rules}
 use Rattle.groups.specs.RunLaws.{charged_on, charged_out}
 use Rattle.groups.proofs.charged.Goals as goal
 

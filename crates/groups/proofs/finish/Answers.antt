@@ -1,6 +1,5 @@
 -- `groups::finish` meets its contract: laws of NeedLaws and EndLaws. Assumes nothing.
 use native.Mathlib.Omega.{arith}
-use borrow.Author.Rules.{rules}
 use Rattle.groups.specs.NeedLaws.{finish_settles, finish_ends, finish_fails, finish_closes, finish_ticks, finish_left}
 use Rattle.groups.specs.EndLaws.{finishes_paused, finishes_spent, finishes_refused, finishes_throws, finishes_closes}
 use Rattle.groups.proofs.finish.Goals as goal

@@ -1,7 +1,6 @@
 -- `groups::lucia_group` meets its contract: laws of NeedLaws and GroupLaws, with the facts in hand given by their paths. Assumes nothing.
 use native.Mathlib.Omega.{arith}
 use mathlib.Core.Path.{refl}
-use borrow.Author.Rules.{rules}
 use Rattle.groups.specs.NeedLaws.{lucia_some, lucia_within, lucia_base, lucia_handle, lucia_slices, lucia_finishes, lucia_small}
 use Rattle.groups.specs.GroupLaws.{lucia_groups}
 use Rattle.groups.proofs.lucia_group.Goals as goal

@@ -1,7 +1,6 @@
 -- `groups::run` meets its contract: the loop by RunLaws. Assumes nothing.
-use borrow.Author.Rules.{rules}
 use Rattle.scan.specs.Tables.{program_in}
-use Rattle.groups.specs.RunLaws.{Looping, to_do, looping_first, looping_more, looping_less, looping_ran}
+use Rattle.groups.specs.RunLaws.{Looping, to_do}
 use Rattle.groups.proofs.run.Given as goal
 
 abbrev pub invariant-loop-r : goal.invariant-loop-r

@@ -1,7 +1,6 @@
 -- `groups::run_group` meets its contract: laws of NeedLaws and GroupLaws, with the facts in hand given by their paths. Assumes nothing.
 use native.Mathlib.Omega.{arith}
 use mathlib.Core.Path.{refl, sym, ◌∙◌}
-use borrow.Author.Rules.{rules}
 use Rattle.groups.specs.NeedLaws.{group_within, group_base, group_callback, group_tops, group_small}
 use Rattle.groups.specs.GroupLaws.{group_empty, group_result, group_waits, group_pauses, group_performs, group_lucia}
 use Rattle.groups.proofs.run_group.Goals as goal

@@ -1,9 +1,5 @@
 -- `handlers::find_handler` meets its contract. Assumes nothing.
-use borrow.Author.Rules.{rules}
-use Prim.Native.Nat.{◌-◌}
-use Rattle.cells.specs.Cells.{cells}
-use Rattle.scan.specs.Tables.{program_in}
-use Rattle.handlers.specs.Frames.{Missed, missed_none, missed_more, finds_here, finds_none}
+use Rattle.handlers.specs.Frames.{missed_none, missed_more, finds_here, finds_none}
 use Rattle.handlers.proofs.find_handler.Goals as goal
 
 pub loop-j-init : goal.loop-j-init

@@ -1,9 +1,8 @@
 -- `handlers::find_handler` meets its contract. Assumes nothing.
-use borrow.Author.Rules.{rules}
 use Prim.Native.Nat.{◌-◌}
 use Rattle.cells.specs.Cells.{cells}
 use Rattle.scan.specs.Tables.{program_in}
-use Rattle.handlers.specs.Frames.{Missed, missed_none, missed_more, finds_here, finds_none}
+use Rattle.handlers.specs.Frames.{Missed}
 use Rattle.handlers.proofs.find_handler.Given as goal
 
 abbrev pub invariant-loop-j : goal.invariant-loop-j

@@ -1,10 +1,7 @@
 -- `handlers::search` meets its contract. Assumes nothing.
-use borrow.Author.Rules.{rules}
-use Prim.Native.Nat.{◌-◌}
-use native.Mathlib.Omega.{arith}
 use Rattle.cells.specs.Cells.{cells}
 use Rattle.scan.specs.Tables.{program_in}
-use Rattle.handlers.specs.Stacks.{Left, search_none, left_first, left_fits, left_room, left_in, left_next, left_none}
+use Rattle.handlers.specs.Stacks.{Left}
 use Rattle.handlers.proofs.search.Given as goal
 
 abbrev pub invariant-loop-i : goal.invariant-loop-i

@@ -1,5 +1,4 @@
 -- `jumps::check_effect` meets its contract. Assumes nothing.
-use borrow.Author.Rules.{rules}
 use Rattle.jumps.specs.Effects.{check_stops, check_goes, check_throws}
 use Rattle.jumps.proofs.check_effect.Goals as goal
 

@@ -1,5 +1,4 @@
 -- `jumps::effect_matches` meets its contract. Assumes nothing.
-use borrow.Author.Rules.{rules}
 use Rattle.jumps.specs.Effects.{no_effect_lem, none_expected, both_effects}
 use Rattle.jumps.proofs.effect_matches.Goals as goal
 

@@ -1,5 +1,4 @@
 -- `jumps::jump` meets its contract. Assumes nothing.
-use borrow.Author.Rules.{rules}
 use Rattle.jumps.specs.Jumps.{jump_jumps}
 use Rattle.jumps.proofs.jump.Goals as goal
 

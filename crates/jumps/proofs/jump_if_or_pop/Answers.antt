@@ -1,5 +1,4 @@
 -- `jumps::jump_if_or_pop` meets its contract. Assumes nothing.
-use borrow.Author.Rules.{rules}
 use Rattle.jumps.specs.Jumps.{or_pop_stops, or_pop_throws, or_pop_jumps, or_pop_goes}
 use Rattle.jumps.proofs.jump_if_or_pop.Goals as goal
 

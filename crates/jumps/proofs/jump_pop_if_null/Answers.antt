@@ -1,5 +1,4 @@
 -- `jumps::jump_pop_if_null` meets its contract. Assumes nothing.
-use borrow.Author.Rules.{rules}
 use Rattle.jumps.specs.Jumps.{null_stops, null_jumps, null_goes}
 use Rattle.jumps.proofs.jump_pop_if_null.Goals as goal
 

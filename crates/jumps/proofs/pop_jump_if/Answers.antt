@@ -1,5 +1,4 @@
 -- `jumps::pop_jump_if` meets its contract. Assumes nothing.
-use borrow.Author.Rules.{rules}
 use Rattle.jumps.specs.Jumps.{pop_stops, pop_throws, pop_jumps, pop_goes}
 use Rattle.jumps.proofs.pop_jump_if.Goals as goal
 

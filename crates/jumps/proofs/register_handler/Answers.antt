@@ -1,6 +1,5 @@
 -- `jumps::register_handler` meets its contract. Assumes nothing.
 use native.Mathlib.Omega.{arith}
-use borrow.Author.Rules.{rules}
 use Rattle.jumps.specs.Registers.{fewer_fits, register_stops, register_throws, register_sets, register_many, register_short, register_adds}
 use Rattle.jumps.proofs.register_handler.Goals as goal
 

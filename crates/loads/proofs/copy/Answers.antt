@@ -1,6 +1,5 @@
 -- `loads::copy` meets its contract. Assumes nothing.
 use Rattle.loads.specs.Loads.{copy_none, copy_past, copied}
-use borrow.Author.Rules.{rules}
 use Rattle.loads.proofs.copy.Goals as goal
 
 pub returns-then-i-eq0 : goal.returns-then-i-eq0

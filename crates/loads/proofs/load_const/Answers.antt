@@ -1,6 +1,5 @@
 -- `loads::load_const` meets its contract. Assumes nothing.
 use Rattle.loads.specs.Loads.{const_loaded}
-use borrow.Author.Rules.{rules}
 use Rattle.loads.proofs.load_const.Goals as goal
 
 pub returns : goal.returns

@@ -1,6 +1,5 @@
 -- `loads::load_global` meets its contract. Assumes nothing.
 use Rattle.loads.specs.Loads.{global_loaded}
-use borrow.Author.Rules.{rules}
 use Rattle.loads.proofs.load_global.Goals as goal
 
 pub returns : goal.returns

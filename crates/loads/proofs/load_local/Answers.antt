@@ -1,6 +1,5 @@
 -- `loads::load_local` meets its contract. Assumes nothing.
 use Rattle.loads.specs.Loads.{local_loaded, local_parts}
-use borrow.Author.Rules.{rules}
 use Rattle.loads.proofs.load_local.Goals as goal
 
 pub returns-then-end-room : goal.returns-then-end-room

@@ -1,6 +1,5 @@
 -- `loads::load_upvalue` meets its contract. Assumes nothing.
 use Rattle.loads.specs.Loads.{upvalue_loaded}
-use borrow.Author.Rules.{rules}
 use Rattle.loads.proofs.load_upvalue.Goals as goal
 
 pub returns : goal.returns

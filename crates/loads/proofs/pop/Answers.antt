@@ -1,6 +1,5 @@
 -- `loads::pop` meets its contract. Assumes nothing.
 use Rattle.loads.specs.Loads.{pop_stops, pop_goes}
-use borrow.Author.Rules.{rules}
 use Rattle.loads.proofs.pop.Goals as goal
 
 pub returns-then-g-eq0 : goal.returns-then-g-eq0

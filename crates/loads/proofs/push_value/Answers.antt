@@ -1,6 +1,5 @@
 -- `loads::push_value` meets its contract. Assumes nothing.
 use Rattle.loads.specs.Loads.{push_goes, push_stops}
-use borrow.Author.Rules.{rules}
 use Rattle.loads.proofs.push_value.Goals as goal
 
 pub returns-then-end-room : goal.returns-then-end-room

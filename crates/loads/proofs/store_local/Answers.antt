@@ -1,6 +1,5 @@
 -- `loads::store_local` meets its contract. Assumes nothing.
 use Rattle.loads.specs.Loads.{store_stops, stored_local, stored_parts}
-use borrow.Author.Rules.{rules}
 use Rattle.loads.proofs.store_local.Goals as goal
 
 pub returns-then-g-eq0 : goal.returns-then-g-eq0

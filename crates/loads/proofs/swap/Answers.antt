@@ -1,6 +1,5 @@
 -- `loads::swap` meets its contract. Assumes nothing.
 use Rattle.loads.specs.Loads.{swap_none, swap_past, swaps}
-use borrow.Author.Rules.{rules}
 use Rattle.loads.proofs.swap.Goals as goal
 
 pub returns-then-i-eq0 : goal.returns-then-i-eq0

@@ -1,10 +1,6 @@
 -- `replies::effects_fit` meets its contract. Assumes nothing.
 use native.Mathlib.Omega.{arith}
-use Prim.Native.Nat.{◌-◌}
-use Rattle.cells.specs.Cells.{cells}
-use Rattle.memory.specs.Tests.{effect_fits}
-use Rattle.scan.specs.Tables.{program_in}
-use Rattle.scan.specs.Passed.{Passed, passed_none}
+use Rattle.scan.specs.Passed.{passed_none}
 use Rattle.replies.specs.FitLaws.{cells_not, cells_more, cells_all}
 use Rattle.replies.proofs.effects_fit.Goals as goal
 

@@ -1,11 +1,9 @@
 -- `replies::effects_fit` meets its contract. Assumes nothing.
-use native.Mathlib.Omega.{arith}
 use Prim.Native.Nat.{◌-◌}
 use Rattle.cells.specs.Cells.{cells}
 use Rattle.memory.specs.Tests.{effect_fits}
 use Rattle.scan.specs.Tables.{program_in}
-use Rattle.scan.specs.Passed.{Passed, passed_none}
-use Rattle.replies.specs.FitLaws.{cells_not, cells_more, cells_all}
+use Rattle.scan.specs.Passed.{Passed}
 use Rattle.replies.proofs.effects_fit.Given as goal
 
 abbrev pub invariant-loop-i : goal.invariant-loop-i

@@ -1,9 +1,6 @@
 -- `replies::fits` meets its contract. Assumes nothing.
 use native.Mathlib.Omega.{arith}
-use mathlib.Core.Path.{sym, ap, ◌∙◌}
-use mathlib.Core.Logic.{inl, inr, ⊎_elim}
 use Rattle.replies.specs.FitLaws.{fits_call, fits_tail, fits_perform, fits_value}
-use Rattle.replies.specs.declared.CallbackReturn.TheVariants.{Perform, TailPerform, ReturnValue, Error, Panic}
 use Rattle.replies.proofs.fits.Goals as goal
 
 pub called_fits-requires : goal.called_fits-requires

@@ -1,8 +1,5 @@
 -- `replies::plan_of` meets its contract. Assumes nothing.
-use mathlib.Core.Path.{sym, ap, ◌∙◌}
-use mathlib.Core.Logic.{inl, inr, ⊎_elim}
 use Rattle.replies.specs.PlanLaws.{lies, callable, plans_call, plans_return, plans_error, plans_panic, plans_perform}
-use Rattle.replies.specs.declared.CallbackReturn.TheVariants.{Call, TailCall, Perform, TailPerform}
 use Rattle.replies.proofs.plan_of.Goals as goal
 
 pub throw_error-requires : goal.throw_error-requires

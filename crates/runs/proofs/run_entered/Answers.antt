@@ -4,7 +4,6 @@ use Rattle.runs.specs.LoanLaws.{loans_run}
 use lib.Seq.{length-take-le}
 use mathlib.Core.Path.{refl, sym}
 use native.Mathlib.Omega.{arith}
-use borrow.Author.Rules.{rules}
 use Rattle.runs.proofs.run_entered.Goals as goal
 
 pub slice_bounds-run_lent-end : goal.slice_bounds-run_lent-end

@@ -1,6 +1,5 @@
 -- `settings::set_builtin` meets its contract. Assumes nothing.
 use Rattle.settings.specs.Answers.{asked_builtin}
-use borrow.Author.Rules.{rules}
 use Rattle.settings.proofs.set_builtin.Goals as goal
 
 pub returns : goal.returns

@@ -1,6 +1,5 @@
 -- `settings::set_global` meets its contract. Assumes nothing.
 use Rattle.settings.specs.Answers.{asked_global}
-use borrow.Author.Rules.{rules}
 use Rattle.settings.proofs.set_global.Goals as goal
 
 pub returns : goal.returns

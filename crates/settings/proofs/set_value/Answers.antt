@@ -1,7 +1,6 @@
 -- `settings::set_value` meets its contract. Assumes nothing.
 use Rattle.settings.specs.SettingLaws.{room_known}
 use Rattle.settings.specs.SettingLaws.{set_not, set_unknown, set_over, set_in}
-use borrow.Author.Rules.{rules}
 use Rattle.settings.proofs.set_value.Goals as goal
 
 pub returns-then-number-gt255 : goal.returns-then-number-gt255
