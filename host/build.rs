@@ -1,4 +1,4 @@
-//! Links `libexecutor.a`, which `rt staticlib executor` proves and writes; if it is not there, this is done first. `LUCIA_ARCHIVE` names another folder with it.
+//! Links `libexecutor.a`, which `host/archive` proves and writes; if it is not there, this is done first. `LUCIA_ARCHIVE` names another folder with it.
 
 use std::{
     env, io,
@@ -36,13 +36,11 @@ fn folder() -> Result<PathBuf, String> {
     Ok(folder)
 }
 
-/// Proves the executor and writes the archive. What `rt` prints goes to standard error, since cargo reads the other.
+/// Proves the executor and writes the archive. What it prints goes to standard error, since cargo reads the other.
 fn prove(root: &Path) -> Result<(), String> {
-    let status = Command::new("rt")
-        .args(["staticlib", "executor"])
-        .current_dir(root)
+    let status = Command::new(root.join("host/archive"))
         .stdout(Stdio::from(io::stderr()))
         .status()
-        .map_err(|error| format!("`rt staticlib executor` could not be run: {error}"))?;
-    if status.success() { Ok(()) } else { Err(format!("`rt staticlib executor` failed: {status}")) }
+        .map_err(|error| format!("`host/archive` could not be run: {error}"))?;
+    if status.success() { Ok(()) } else { Err(format!("`host/archive` failed: {status}")) }
 }

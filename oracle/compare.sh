@@ -1,8 +1,8 @@
 #!/bin/sh
-# The exported calls as they are compiled, beside the Rust: the gate's part of what `calls` can do. `rt` must have proved all crates. LUCIA_ARCHIVE names another folder with libexecutor.a.
+# The exported calls as they are compiled, beside the Rust: the gate's part of what `calls` can do. LUCIA_ARCHIVE names another folder with libexecutor.a.
 set -eu
 cd "$(dirname "$0")/.."
-[ -n "${LUCIA_ARCHIVE:-}" ] || rt staticlib executor
+[ -n "${LUCIA_ARCHIVE:-}" ] || host/archive
 cargo build --quiet --release --offline --manifest-path oracle/Cargo.toml -p calls
 calls=oracle/target/release/calls
 work=$(mktemp -d)

@@ -13,7 +13,7 @@ for name in cells utf8 image fuel ints machine; do
     grep "^$name:" crates.txt >> "$room/crates.txt"
 done
 echo "tries: machine image fuel ints utf8 cells" >> "$room/crates.txt"
-echo "// Rows only, in specs/." > "$room/crates/tries/src/lib.rt"
+printf '// Rows only, in specs/.\n\n#![tactic(auto)]\n' > "$room/crates/tries/src/lib.rt"
 echo "pub mod Tries" > "$room/crates/tries/specs/Lib.antt"
 cd "$room"
 first=$1 end=$(($1 + $2))
@@ -21,7 +21,7 @@ while [ "$first" -lt "$end" ]; do
     count=$((end - first < 20 ? end - first : 20))
     "$player" rows --from "$first" --lists "$count" > crates/tries/specs/Tries.antt 2> tally
     echo "seeds $first to $((first + count - 1)): $(cat tally)"
-    rt dev tries > out 2>&1 || { cat out; exit 1; }
+    (cd crates/tries && rt check) > out 2>&1 || { cat out; exit 1; }
     cat tally >> tallies
     first=$((first + count))
 done

@@ -1,4 +1,4 @@
-//! Links the archive that `rt staticlib executor` writes, or the one in the folder `LUCIA_ARCHIVE`.
+//! Links the archive that `host/archive` writes, or the one in the folder `LUCIA_ARCHIVE`.
 
 use std::env;
 

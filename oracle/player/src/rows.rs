@@ -109,7 +109,7 @@ impl Rows {
     }
 
     fn equation(&mut self, name: &str, left: &str, right: &str) {
-        self.text.push_str(&format!("{name} : {left} ≡ {right}\nunfolding every-rule\n{name} = refl\n\n"));
+        self.text.push_str(&format!("{name} : {left} ≡ {right}\nunfolding every_rule\n{name} = refl\n\n"));
     }
 
     /// The equation of an accepted load, and the row that begins with its program.
@@ -147,9 +147,9 @@ impl Rows {
         let list = list_of(&calls);
         let left: String = left.iter().map(|left| format!("    {left} ∷\n")).collect();
         let (seen, left) = match before {
-            None => (format!("seenBy {sizes} ({list}) (accepted program{load})"), format!("accepted (\n{left}    [])")),
+            None => (format!("seen_by {sizes} ({list}) (accepted program{load})"), format!("accepted (\n{left}    [])")),
             Some(before) => {
-                (format!("seen program{load} {sizes} ({list}) (worldOf ({before}))"), format!("\n{left}    []"))
+                (format!("seen program{load} {sizes} ({list}) (world_of ({before}))"), format!("\n{left}    []"))
             }
         };
         self.equation(&format!("row{}", self.rows), &seen, &left);
@@ -184,21 +184,17 @@ impl Rows {
 }
 
 const PREAMBLE: &str = "-- Written by `player rows`.
-use mathlib.Core.Path.{_≡_, refl}
-use mathlib.Core.List.{List, [], _∷_}
-use mathlib.Core.Bool.{true, false}
-use Prim.Native.Nat.{ℕ}
-use lib.IntN.{pos, negsuc}
-use Rattle·fuel.specs.Fuels.{empty}
-use Rattle·image.specs.Program.{Code}
-use Rattle·image.specs.Records.{refused, accepted}
-use Rattle·image.specs.declared.Capture.{Capture}
-use Rattle·image.specs.declared.Constant.{Constant}
-use Rattle·image.specs.declared.Op.{Op}
-use Rattle·machine.specs.Values.{Program, cell, callArguments, unOperator, binOperator, metaUnOperator, metaBinOperator, zeroDivisor, luciaError, luciaPanic}
-use Rattle·machine.specs.Machine.{lucia, host, effectCallback, closure, list, continuation, running, returned, failed, unhandled}
-use Rattle·machine.specs.Calls.{runs, asks, loads, start, answer, clear, text, bytes, setGlobal, getGlobal, setBuiltin, getBuiltin, callWith, perform, tailCall, tailPerform, returnIt, errorWith, panicWith, nothing, gives, part, load}
-use Rattle·machine.specs.Seen.{seen, seenBy, leaves, worldOf, sizes, fuelWith, handler, named, every-rule}
+use Rattle.std.specs.Prelude.{◌≡◌, refl, List, [], ◌∷◌, true, false, ℕ, pos, negsuc}
+use Rattle.fuel.specs.Fuels.{empty}
+use Rattle.image.specs.Program.{Code}
+use Rattle.image.specs.Records.{refused, accepted}
+use Rattle.image.specs.declared.Capture.{Capture}
+use Rattle.image.specs.declared.Constant.{Constant}
+use Rattle.image.specs.declared.Op.{Op}
+use Rattle.machine.specs.Values.{Program, cell, call_arguments, un_operator, bin_operator, meta_un_operator, meta_bin_operator, zero_divisor, lucia_error, lucia_panic}
+use Rattle.machine.specs.Machine.{lucia, host, effect_callback, closure, list, continuation, running, returned, failed, unhandled}
+use Rattle.machine.specs.Calls.{runs, asks, loads, start, answer, clear, text, bytes, set_global, get_global, set_builtin, get_builtin, call_with, perform, tail_call, tail_perform, return_it, error_with, panic_with, nothing, gives, part, load}
+use Rattle.machine.specs.Seen.{seen, seen_by, leaves, world_of, sizes, fuel_with, handler, named, every_rule}
 
 abbrev op : ℕ → ℕ → Op
 op n x = record { number = n; operand = x }
@@ -210,7 +206,7 @@ abbrev constant : ℕ → ℕ → ℕ → Constant
 constant k p n = record { kind = k; place = p; size = n }
 
 abbrev code : ℕ → ℕ → ℕ → ℕ → List Op → List ℕ → List Capture → List Constant → List ℕ → Code
-code p v l s os gs us ks cs = record { params = p; variadic = v; locals = l; stackSize = s; opcodes = os; globals = gs; captures = us; constants = ks; codes = cs }
+code p v l s os gs us ks cs = record { params = p; variadic = v; locals = l; stack_size = s; opcodes = os; globals = gs; captures = us; constants = ks; codes = cs }
 
 abbrev program : List ℕ → List Code → Program
 program s cs = record { image = s; codes = cs }
@@ -278,7 +274,7 @@ fn lent_cells(bytes: &[u8]) -> Option<String> {
 fn fuel(bytes: &[u8]) -> String {
     let number = i32::from_le_bytes([bytes[0], bytes[1], bytes[2], bytes[3]]);
     let integer = if number < 0 { format!("negsuc {}", -1 - number) } else { format!("pos {number}") };
-    format!("(fuelWith ({integer}) {})", bytes[4] != 0)
+    format!("(fuel_with ({integer}) {})", bytes[4] != 0)
 }
 
 /// The call as a term, if the definitions have it.
@@ -295,17 +291,17 @@ fn call_term(step: &Step) -> Option<String> {
         Call::Clear => "asks clear".into(),
         Call::Text { value } => format!("asks (text ({}) ({}))", bytes(&step.page), cell(*value)),
         Call::Bytes { value } => format!("asks (bytes ({}))", cell(*value)),
-        Call::SetGlobal { number, value } => format!("asks (setGlobal {number} ({}))", cell(*value)),
-        Call::GetGlobal { number } => format!("asks (getGlobal {number})"),
-        Call::SetBuiltin { number, value } => format!("asks (setBuiltin {number} ({}))", cell(*value)),
-        Call::GetBuiltin { number } => format!("asks (getBuiltin {number})"),
+        Call::SetGlobal { number, value } => format!("asks (set_global {number} ({}))", cell(*value)),
+        Call::GetGlobal { number } => format!("asks (get_global {number})"),
+        Call::SetBuiltin { number, value } => format!("asks (set_builtin {number} ({}))", cell(*value)),
+        Call::GetBuiltin { number } => format!("asks (get_builtin {number})"),
     })
 }
 
 /// What the host answers; a list that its kind does not have is not modelled.
 fn answer_term(kind: u32, subject: Cell, args: &[u8], handlers: &[u8]) -> Option<String> {
     let name =
-        ["callWith", "perform", "tailCall", "tailPerform", "returnIt", "errorWith", "panicWith"].get(kind as usize)?;
+        ["call_with", "perform", "tail_call", "tail_perform", "return_it", "error_with", "panic_with"].get(kind as usize)?;
     let (args, handlers) = (lent_cells(args)?, lent_cells(handlers)?);
     let subject = cell(subject);
     match kind {
@@ -356,7 +352,7 @@ fn frame(frame: &Frame) -> String {
             format!("lucia {closure} {place} {} {values} ({handlers})", cells(locals))
         }
         FrameKind::Host { number, word } => format!("host {number} {word} {values} {effects}"),
-        FrameKind::Effect { effect } => format!("effectCallback ({}) {values} {effects}", cell(*effect)),
+        FrameKind::Effect { effect } => format!("effect_callback ({}) {values} {effects}", cell(*effect)),
     }
 }
 
@@ -377,15 +373,15 @@ fn error(fault: &Fault) -> String {
     match fault {
         Fault::CallArguments { start, end, given } => {
             assert!(end.is_none_or(|end| end == *start), "an upper end of its own");
-            format!("callArguments {start} {} {given}", end.is_none())
+            format!("call_arguments {start} {} {given}", end.is_none())
         }
-        Fault::UnOperator { opcode, operand, of } => format!("unOperator {opcode} {operand} {of}"),
-        Fault::BinOperator { opcode, operand, of: [a, b] } => format!("binOperator {opcode} {operand} {a} {b}"),
-        Fault::MetaUnOperator { name, of } => format!("metaUnOperator {name} {of}"),
-        Fault::MetaBinOperator { name, of: [a, b] } => format!("metaBinOperator {name} {a} {b}"),
-        Fault::ZeroDivisor => "zeroDivisor".into(),
-        Fault::LuciaError(value) => format!("luciaError ({})", cell(*value)),
-        Fault::LuciaPanic(value) => format!("luciaPanic ({})", cell(*value)),
+        Fault::UnOperator { opcode, operand, of } => format!("un_operator {opcode} {operand} {of}"),
+        Fault::BinOperator { opcode, operand, of: [a, b] } => format!("bin_operator {opcode} {operand} {a} {b}"),
+        Fault::MetaUnOperator { name, of } => format!("meta_un_operator {name} {of}"),
+        Fault::MetaBinOperator { name, of: [a, b] } => format!("meta_bin_operator {name} {a} {b}"),
+        Fault::ZeroDivisor => "zero_divisor".into(),
+        Fault::LuciaError(value) => format!("lucia_error ({})", cell(*value)),
+        Fault::LuciaPanic(value) => format!("lucia_panic ({})", cell(*value)),
     }
 }
 
@@ -464,7 +460,7 @@ mod tests {
     fn a_list_is_a_row() {
         let rows = rows("start closure @0\nrun 100");
         assert_eq!(rows.tally(), "1 lists, 1 rows, 3 calls, 2 ticks");
-        let last = "leaves 100 2 (fuelWith (pos 1) false) nothing ([]) (returned (cell 0 0 0)) (closure 0 ([]) ∷ []) ([]) ([]) false 64 ∷";
+        let last = "leaves 100 2 (fuel_with (pos 1) false) nothing ([]) (returned (cell 0 0 0)) (closure 0 ([]) ∷ []) ([]) ([]) false 64 ∷";
         assert!(rows.text().contains(last), "{}", rows.text());
     }
 
@@ -472,7 +468,7 @@ mod tests {
     fn a_long_list_is_several_rows() {
         let rows = rows("image { code main() { Jump 0 } }\nload\nstart closure @0\nrun 1000\nrun 1");
         assert_eq!(rows.tally(), "1 lists, 3 rows, 5 calls, 1001 ticks");
-        assert!(rows.text().contains("(runs 1 (fuelWith (pos 68) false) ∷ []) (worldOf (leaves 102 1000 "));
+        assert!(rows.text().contains("(runs 1 (fuel_with (pos 68) false) ∷ []) (world_of (leaves 102 1000 "));
     }
 
     #[test]
