@@ -1,4 +1,4 @@
-//! Links the archive that `rt staticlib reader` writes.
+//! Links the archive that `host/archive reader` writes.
 
 fn main() {
     let archive = concat!(env!("CARGO_MANIFEST_DIR"), "/../../target/staticlib");
