@@ -283,10 +283,6 @@ def convert(crate, path, spec):
         open(folder + "/Invariants.antt", "w", encoding="utf-8").write(out)
     if answers or own:
         body = "\n\n".join(own + answers)
-        for a, n in renames.items():
-            pass
-        if "Lts." in body:
-            pass
         lacks = [w for w in ("ap", "not") if "(ap not " in body and not any(re.search(rf"[{{ ]{w}[,}}]", u) for u in keep)]
         if lacks:
             keep.append("use Rattle.std.proofs.Common.{" + ", ".join(lacks) + "}")

@@ -135,10 +135,7 @@ def split(crate, path):
     its = items(lines)
     uses = ["\n".join(b).strip() for n, b, k, f in its if k == "use"]
     rest = [[n, b, (module_kind(b) if k == "module" else k), f, k] for n, b, k, f in its if k != "use"]
-    for n, b, k, f, kk in rest:
-        pass
-    laws = [r for r in rest if r[2] == "law"]
-    if not laws:
+    if not any(r[2] == "law" for r in rest):
         return None
     # a private definition that only laws name goes with them
     changed = True
