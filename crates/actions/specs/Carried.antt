@@ -35,6 +35,8 @@ use Rattle.actions.specs.Acted as acted
 use Rattle.actions.specs.Acted.{Roomy, Carriable, CarriesOut, Startable, StartsFrame, Resumable}
 use Rattle.actions.specs.Tables.{lower_onto, lower_all, begins_top}
 use Rattle.actions.specs.Moved.{count_is, cost_is, flat_is, appends_unwritten}
+use Rattle.plan.specs.Kinds.{kind_number}
+use Rattle.plan.proofs.ErrorLaws.{kind_is}
 
 -- ---- At rest, and lying in memory
 same : (x : List ℕ) → Same x x
@@ -299,13 +301,13 @@ module _ {plan : Plan} (args : List Cell) (c : Counts) {state state' : List ℕ}
     table = refl;
   }
 
-  pub fails_leaves : {x : Error} → plan ≡ Fails x → Changes (Resulted x.kind x.value x.second 0) state state' → CarriesOut plan args c state live store starts state' live store starts
+  pub fails_leaves : {x : Error} → plan ≡ Fails x → Changes (Resulted (kind_number x.kind) x.value x.second 0) state state' → CarriesOut plan args c state live store starts state' live store starts
   unfolding result_shown
   fails_leaves {x} e w = record {
     rests = λ P m m' d q r o.
         let f : Failed x m m' = turned P args m m' e d in
         let z : (error_shown f.error).args ≡ [] = error_args f.error in
-        rw f.after (rests_result (failed f.error) r w (ap (λ (y : Error). y.kind) f.is) (ap (λ (y : Error). y.value) f.is) (ap (λ (y : Error). y.second) f.is) (sym (ap length z)) r.free
+        rw f.after (rests_result (failed f.error) r w (ap (λ (y : Error). kind_number y.kind) f.is ∙ kind_is f.error) (ap (λ (y : Error). y.value) f.is) (ap (λ (y : Error). y.second) f.is) (sym (ap length z)) r.free
         (behind_none r q ∙ ap (λ (a : List Cell). flat m.frames ++ (a ++ r.free)) (sym z)));
     same_state = changes_same w;
     same_live = same live;

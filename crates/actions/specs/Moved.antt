@@ -32,6 +32,7 @@ use Rattle.arguments.specs.Laws.{pushes_same}
 use Rattle.captures.specs.Entered.{Lies}
 use Rattle.actions.specs.Acted.{Roomy, Startable, StartsFrame, Resumable, Resumes, Beginnable, Begun, Begins}
 use Rattle.actions.specs.Tables.{begins_new, begins_more, begun_there, live_above, frames_inside, sizes_back}
+use Rattle.plan.specs.Kinds.{frame_number}
 
 -- ---- Costs
 parsed_count : (b : Bool) (n : ℕ) (args : List Cell) (s : List Object) → (b ≡ true → n ≤ length args) → length (parse b n args s).args ≡ taken_count (record { count = n; variadic = b }) (length args)
@@ -122,15 +123,15 @@ pub pushed_fits : {c : Counts} {f : Start} {p : Params} {n : ℕ} {args : List C
 pushed_fits {h = h} o e u = (omega (arith, o.cells_live, ap (λ (k : Running). k.base) u.registers, (pushes_same u).len, e), omega (arith, ap (λ (k : Running). k.place) u.registers))
 
 pub starts_frame : {c : Counts} {f : Start} {p : Params} {args : List Cell} {live a b live' store store' : List ℕ} {h : Running} (starts : List ℕ) → c.frames < length starts
-    → Lists p c.store args store store' → Starts (new_written f.kind f.subject f.locals []) c.live live a → Pushes p c.store args (new_running c.live f.locals) a h b → Settles h b live'
+    → Lists p c.store args store store' → Starts (new_written (frame_number f.kind) f.subject f.locals []) c.live live a → Pushes p c.store args (new_running c.live f.locals) a h b → Settles h b live'
     → StartsFrame c f p args live store starts live' store' (set starts c.frames c.live)
 starts_frame {c} {f} {p} {args} {live} {a} {b} {live'} {store} {store'} starts lt v s u t = record {
   lies = λ m m' r l room.
       let F : List Frame = m.frames in
       let A : List Cell = (parse p.variadic p.count args m.store).args in
-      let o = t.stands _ _ ((u.turns m.store (used_is l)).top _ _ (new_top f.kind f.subject f.locals c.live (s.stands (flat F) l.frames.free l.frames.is (flat_is l)) (flat_is l))) in
-      let q : pushed_all A (new_written f.kind f.subject f.locals []) ≡ written r.frame =
-      ap (λ (st : List Cell). record { kind = f.kind; subject = f.subject; place = 0; locals = (new_written f.kind f.subject f.locals []).locals; handlers = []; stack = st }) (append-nil (reverse A)) ∙ sym r.is in
+      let o = t.stands _ _ ((u.turns m.store (used_is l)).top _ _ (new_top (frame_number f.kind) f.subject f.locals c.live (s.stands (flat F) l.frames.free l.frames.is (flat_is l)) (flat_is l))) in
+      let q : pushed_all A (new_written (frame_number f.kind) f.subject f.locals []) ≡ written r.frame =
+      ap (λ (st : List Cell). record { kind = frame_number f.kind; subject = f.subject; place = 0; locals = (new_written (frame_number f.kind) f.subject f.locals []).locals; handlers = []; stack = st }) (append-nil (reverse A)) ∙ sym r.is in
       let k : Live (r.frame ∷ F) (cells live') = stands_live (subst (λ (w : Written). Stands w (flat F) (cells live')) q o) in
       rw r.after (record {
         counts = refl;

@@ -22,7 +22,7 @@ pub fn start_frame(
     ensures { StartsFrame c f p (cells args.now) live.old store.old starts.old live.new store.new starts.new }
 {
     arguments::list_rest(store, c.store, args, p);
-    placing::new_frame(live, c.live, f.kind, f.subject, f.locals, 0, 0);
+    placing::new_frame(live, c.live, f.kind.number(), f.subject, f.locals, 0, 0);
     let g = Running {
         base: c.live,
         locals: f.locals as usize,
@@ -51,13 +51,11 @@ fn begin(
 {
     let mut place = from;
     let mut last = from;
-    let mut i = 0;
-    while i < count {
+    for i in 0..count {
         let next = moves::end(moves::open(store, place));
         starts[first + i] = (at + (place - from)) as u32;
         last = place;
         place = next;
-        i += 1;
     }
     last
 }
@@ -95,7 +93,7 @@ pub fn carry(
             blocks::copy(live, c.live, args, 0, n);
             states::set_result(state, 2, e, 0, n as u64);
         }
-        Plan::Fails(x) => states::set_result(state, x.kind as u64, x.value, x.second, 0),
+        Plan::Fails(x) => states::set_result(state, x.kind.number() as u64, x.value, x.second, 0),
         Plan::Receives(v) => {
             let top = c.frames - 1;
             placing::receive(live, starts[top] as usize, v);

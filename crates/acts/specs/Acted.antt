@@ -1,5 +1,5 @@
 -- A plan judged and carried out, in memory: refused, the machine is at rest as it was; done, the machine that the step leads to is.
-use Rattle.std.specs.Prelude.{◌≡◌, List, ◌∷◌, ℕ, ◌+◌, ◌-◌, ◌<◌, ◌≤◌, length, get_or}
+use Rattle.std.specs.Prelude.{◌≡◌, List, ◌∷◌, ℕ, ◌+◌, ◌-◌, ◌<◌, ◌≤◌, length, get_or, Option, None, Some, Result, Ok, Err}
 use Rattle.cells.specs.Cells.{room, cells}
 use Rattle.cells.specs.declared.Cell.{Cell}
 use Rattle.image.specs.Program.{no_op}
@@ -20,17 +20,18 @@ use Rattle.plan.specs.declared.Counts.{Counts}
 use Rattle.plan.specs.declared.Error.{Error}
 use Rattle.plan.specs.declared.Plan.{Plan}
 use Rattle.counts.specs.Counted.{refusal_by, Ready}
+use Rattle.refusals.specs.declared.Refusal.{Refusal}
+use Rattle.refusals.specs.Refusals.{number}
 use Rattle.acts.specs.declared.Acted.{Acted}
-use Rattle.acts.specs.declared.Acted.TheVariants.{Refused, Done, Failed}
+use Rattle.acts.specs.declared.Acted.TheVariants.{Done, Failed}
 
 abbrev pub rooms_of : List ℕ → List ℕ → Sizes
 rooms_of live store = record { live = room live; store = room store }
 
 -- ---- A plan for m, which leads to m', is judged by what m' has
-abbrev pub JudgedAs : Sizes → M → Acted → Type 0
-JudgedAs z m' (Refused n) = (n ≡ refusal_by z (counts_of m')) × (0 < n)
-JudgedAs z m' (Done c) = (refusal_by z (counts_of m') ≡ 0) × (c ≡ counts_of m')
-JudgedAs z m' (Failed c) = ⊥
+abbrev pub JudgedAs : Sizes → M → Result Counts Refusal → Type 0
+JudgedAs z m' (Err r) = (number r ≡ refusal_by z (counts_of m')) × (0 < number r)
+JudgedAs z m' (Ok c) = (refusal_by z (counts_of m') ≡ 0) × (c ≡ counts_of m')
 
 -- the numbers that every plan comes with
 pub record Small (c : Counts) (n : ℕ) (live store starts : List ℕ) : Type 0 where
@@ -50,21 +51,22 @@ pub record Judgeable (plan : Plan) (n : ℕ) (c : Counts) (live store starts : L
   pub ready : Ready plan machine (cells live)
   pub small : Small c n live store starts
 
-pub record Judges (plan : Plan) (n : ℕ) (c : Counts) (live store starts : List ℕ) (r : Acted) : Type 0 where
+pub record Judges (plan : Plan) (n : ℕ) (c : Counts) (live store starts : List ℕ) (r : Result Counts Refusal) : Type 0 where
   pub judged : (P : Program) (m m' : M) (args : List Cell) → length args ≡ n → Carries P plan args m m' → Held P m c (cells live) (cells store) starts → Ready plan m (cells live) → JudgedAs (rooms_of live store) m' r
 
 -- ---- A plan that needs no judging: the frames of a continuation, where there is room however much its last frame keeps
 -- it puts `more` frames on top, and nothing else
 pub record Eased (plan : Plan) (n : ℕ) (c : Counts) (live store starts : List ℕ) (more : ℕ) : Type 0 where
   pub after : Counts
-  pub judges : Judges plan n c live store starts (Done after)
+  pub judges : Judges plan n c live store starts (Ok after)
   pub frames : after.frames ≡ c.frames + more
   pub uses : after.store ≡ c.store
   pub runs : (P : Program) (args : List Cell) (m m' : M) → Carries P plan args m m' → m'.result ≡ m.result
 
--- 0: this is not known
-pub record Eases (plan : Plan) (n : ℕ) (c : Counts) (live store starts : List ℕ) (more : ℕ) : Type 0 where
-  pub eased : (more ≡ 0 → ⊥) → Eased plan n c live store starts more
+-- None: this is not known, or there is no frame
+abbrev pub Eases : Plan → ℕ → Counts → List ℕ → List ℕ → List ℕ → Option ℕ → Type 0
+Eases plan n c live store starts None = Unit {0}
+Eases plan n c live store starts (Some more) = (0 < more) × Eased plan n c live store starts more
 
 -- so many frames stand in L, the top one where the table says
 pub record Standing (L : List Cell) (starts : List ℕ) (frames : ℕ) : Type 0 where
@@ -94,10 +96,9 @@ pub record Gone (m m_f : M) (g : registers.Running) (L : List Cell) : Type 0 whe
   pub runs : Top (written top) (flat below) g L
   pub leaves : m_f ≡ with_frames below m
 
-abbrev pub ActedOn : Sizes → M → M → Acted → List Cell → List Cell → List Cell → List ℕ → Type 0
-ActedOn z m m' (Refused n) B L S starts = (n ≡ refusal_by z (counts_of m')) × (0 < n) × Rests m (counts_of m) B L S starts
-ActedOn z m m' (Done c) B L S starts = (refusal_by z (counts_of m') ≡ 0) × (c ≡ counts_of m') × Rests m' c B L S starts
-ActedOn z m m' (Failed c) B L S starts = ⊥
+abbrev pub ActedOn : Sizes → M → M → Result Counts Refusal → List Cell → List Cell → List Cell → List ℕ → Type 0
+ActedOn z m m' (Err r) B L S starts = (number r ≡ refusal_by z (counts_of m')) × (0 < number r) × Rests m (counts_of m) B L S starts
+ActedOn z m m' (Ok c) B L S starts = (refusal_by z (counts_of m') ≡ 0) × (c ≡ counts_of m') × Rests m' c B L S starts
 
 -- no byte behind the cells changes, and the table keeps its length
 pub record Bounded (state live store starts state' live' store' starts' : List ℕ) : Type 0 where
@@ -107,10 +108,9 @@ pub record Bounded (state live store starts state' live' store' starts' : List �
   pub table : length starts' ≡ length starts
 
 -- how many cells of the store are used then
-abbrev pub used_then : ℕ → Acted → ℕ
-used_then u (Refused n) = u
-used_then u (Done c) = c.store
-used_then u (Failed c) = c.store
+abbrev pub used_by : ℕ → Result Counts Refusal → ℕ
+used_by u (Err r) = u
+used_by u (Ok c) = c.store
 
 pub record Overable (plan : Plan) (args : List Cell) (c : Counts) (g left : registers.Running) (state live store starts : List ℕ) : Type 0 where
   pub program : Program
@@ -126,11 +126,11 @@ pub record Overable (plan : Plan) (args : List Cell) (c : Counts) (g left : regi
   pub places : (g.place < 4294967296) × (left.place < 4294967296)
   pub len : length state ≡ 8256
 
-pub record ActsOver (plan : Plan) (args : List Cell) (c : Counts) (g left : registers.Running) (r : Acted) (state live store starts state' live' store' starts' : List ℕ) : Type 0 where
+pub record ActsOver (plan : Plan) (args : List Cell) (c : Counts) (g left : registers.Running) (r : Result Counts Refusal) (state live store starts state' live' store' starts' : List ℕ) : Type 0 where
   pub acts : (P : Program) (m m_f m' : M) → Changed m m_f g left (cells live) → Held P m_f c (cells live) (cells store) starts → Ready plan m_f (cells live) → Carries P plan args m_f m' → Block m (cells state)
       → ActedOn (rooms_of live store) m m' r (cells state') (cells live') (cells store') starts'
   pub bounded : Bounded state live store starts state' live' store' starts'
-  pub appends : Appends c.store (used_then c.store r) store store'
+  pub appends : Appends c.store (used_by c.store r) store store'
 
 pub record Belowable (plan : Plan) (args : List Cell) (c : Counts) (g : registers.Running) (state live store starts : List ℕ) : Type 0 where
   pub program : Program
@@ -147,11 +147,11 @@ pub record Belowable (plan : Plan) (args : List Cell) (c : Counts) (g : register
   pub places : g.place < 4294967296
   pub len : length state ≡ 8256
 
-pub record ActsBelow (plan : Plan) (args : List Cell) (c : Counts) (g : registers.Running) (r : Acted) (state live store starts state' live' store' starts' : List ℕ) : Type 0 where
+pub record ActsBelow (plan : Plan) (args : List Cell) (c : Counts) (g : registers.Running) (r : Result Counts Refusal) (state live store starts state' live' store' starts' : List ℕ) : Type 0 where
   pub acts : (P : Program) (m m_f m' : M) → Gone m m_f g (cells live) → Held P m_f c (cells live) (cells store) starts → Begins m.frames starts → Ready plan m_f (cells live) → Carries P plan args m_f m' → Block m (cells state)
       → ActedOn (rooms_of live store) m m' r (cells state') (cells live') (cells store') starts'
   pub bounded : Bounded state live store starts state' live' store' starts'
-  pub appends : Appends c.store (used_then c.store r) store store'
+  pub appends : Appends c.store (used_by c.store r) store store'
 
 -- ---- A step that closes its slice
 -- the step is accepted at a pace, and memory has what it leads to
@@ -163,10 +163,25 @@ pub record ActsAs (P : Program) (z : Sizes) (m : M) (pace : Pace) (c : Counts) (
   pub rests : Rests after c B L S starts
 
 -- refused, done at a pace, or its own error thrown
-abbrev pub Acts : Program → Sizes → M → Pace → Acted → List Cell → List Cell → List Cell → List ℕ → Type 0
-Acts P z m pace (Refused n) B L S starts = (outcome P z (next_action P m m.frames) m ≡ stops n) × Rests m (counts_of m) B L S starts
-Acts P z m pace (Done c) B L S starts = ActsAs P z m pace c B L S starts
-Acts P z m pace (Failed c) B L S starts = ActsAs P z m failing c B L S starts
+abbrev pub Acts : Program → Sizes → M → Pace → Result Acted Refusal → List Cell → List Cell → List Cell → List ℕ → Type 0
+Acts P z m pace (Err r) B L S starts = (outcome P z (next_action P m m.frames) m ≡ stops (number r)) × Rests m (counts_of m) B L S starts
+Acts P z m pace (Ok (Done c)) B L S starts = ActsAs P z m pace c B L S starts
+Acts P z m pace (Ok (Failed c)) B L S starts = ActsAs P z m failing c B L S starts
+
+-- a plan that is carried out is a step that is done, or the throw of its own error
+abbrev pub as_done : Result Counts Refusal → Result Acted Refusal
+as_done (Err r) = Err r
+as_done (Ok c) = Ok (Done c)
+
+abbrev pub as_failed : Result Counts Refusal → Result Acted Refusal
+as_failed (Err r) = Err r
+as_failed (Ok c) = Ok (Failed c)
+
+-- how many cells of the store are used then
+abbrev pub used_then : ℕ → Result Acted Refusal → ℕ
+used_then u (Err r) = u
+used_then u (Ok (Done c)) = c.store
+used_then u (Ok (Failed c)) = c.store
 
 -- the machine m runs the frame in g, with these counts
 pub record Busy (P : Program) (z : Sizes) (m : M) (g : registers.Running) (u frames : ℕ) (B L S : List Cell) (starts : List ℕ) : Type 0 where
@@ -197,18 +212,11 @@ pub record Failable (P : Program) (frames u : ℕ) (g left : registers.Running) 
   pub place : left.place < 4294967296
   pub len : length state ≡ 8256
 
--- an error is never a step that is done
-abbrev pub Failing : Acted → Type 0
-Failing (Refused n) = Unit {0}
-Failing (Done c) = ⊥
-Failing (Failed c) = Unit {0}
-
-pub record Fails (P : Program) (frames u : ℕ) (g left : registers.Running) (x : Error) (r : Acted) (state live store starts state' live' store' starts' : List ℕ) : Type 0 where
+pub record Fails (P : Program) (frames u : ℕ) (g left : registers.Running) (x : Error) (r : Result Counts Refusal) (state live store starts state' live' store' starts' : List ℕ) : Type 0 where
   pub acts : (z : Sizes) (m : M) (b : Busy P z m g u frames (cells state) (cells live) (cells store) starts) → Thrown P m b.frame x left (cells live)
-      → Acts P z m failing r (cells state') (cells live') (cells store') starts'
-  pub never : Failing r
+      → Acts P z m failing (as_failed r) (cells state') (cells live') (cells store') starts'
   pub bounded : Bounded state live store starts state' live' store' starts'
-  pub appends : Appends u (used_then u r) store store'
+  pub appends : Appends u (used_by u r) store store'
 
 -- the next opcode of the running frame
 pub record Opcode (r : Running) (p op x : ℕ) : Type 0 where

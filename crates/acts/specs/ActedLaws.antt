@@ -1,5 +1,5 @@
 -- A plan that is judged, and carried out or not: memory has the machine that it leads to, or the one that was.
-use Rattle.std.specs.Prelude.{◌≡◌, refl, List, ◌∷◌, Bool, true, false, ℕ, zero, suc, ◌+◌, ◌/◌, ◌<◌, ◌≤◌, length, ltb}
+use Rattle.std.specs.Prelude.{◌≡◌, refl, List, ◌∷◌, Bool, true, false, ℕ, zero, suc, ◌+◌, ◌/◌, ◌<◌, ◌≤◌, length, ltb, Result, Ok, Err}
 use Rattle.std.proofs.Math.Path.{sym, subst}
 use Rattle.std.proofs.Common.{ap, ◌∙◌, arith, ltb-false}
 use Rattle.cells.specs.Cells.{room, cells}
@@ -23,13 +23,31 @@ use Rattle.counts.specs.Counted.{refusal_by, Ready, Countable}
 use Rattle.actions.specs.Acted.{Roomy, Carriable, CarriesOut}
 use Rattle.acts.specs.Acted.{rooms_of, JudgedAs, Small, Judgeable, Judges, Changed, Gone, Bounded, Overable, ActsOver, Belowable, ActsBelow}
 use Rattle.acts.specs.Left.{begins_other, top_live, top_room, live_rests, held_rests, held_again, held_room, block_left}
-use Rattle.acts.specs.declared.Acted.{Acted}
-use Rattle.acts.specs.declared.Acted.TheVariants.{Refused, Done, Failed}
+use Rattle.refusals.specs.declared.Refusal.{Refusal}
+use Rattle.refusals.specs.declared.Refusal.TheVariants.{ImageSize, ImageStructure, ImageNumber, ImageCodes, BadValue, BadLoan, NotInForm, NotLoaded, OutOfTurn, FewValues, ManyFrames, LiveFull, StoreFull, ManyHandlers}
+use Rattle.refusals.specs.Refusals.{number, number_of}
 
 -- ---- A plan is judged
 pub some : (n : ℕ) → (n ≡ 0 → ⊥) → 0 < n
 some zero h = absurd (h refl)
 some (suc n) h = omega arith
+
+-- 0 is the number of no refusal
+pub numbered : (r : Refusal) → 0 < number r
+numbered ImageSize = omega arith
+numbered ImageStructure = omega arith
+numbered ImageNumber = omega arith
+numbered ImageCodes = omega arith
+numbered BadValue = omega arith
+numbered BadLoan = omega arith
+numbered NotInForm = omega arith
+numbered NotLoaded = omega arith
+numbered OutOfTurn = omega arith
+numbered FewValues = omega arith
+numbered ManyFrames = omega arith
+numbered LiveFull = omega arith
+numbered StoreFull = omega arith
+numbered ManyHandlers = omega arith
 
 -- there is room where nothing is refused
 no_refusal : (z : Sizes) (c : Counts) → refusal_by z c ≡ 0 → (c.frames ≤ 256) × (c.live ≤ z.live) × (c.store ≤ z.store)
@@ -62,12 +80,12 @@ module _ {plan : Plan} {n : ℕ} {c : Counts} {live store starts : List ℕ} whe
   }
 
   module _ {after : Counts} (k : (P : Program) (m m' : M) (args : List Cell) → length args ≡ n → Carries P plan args m m' → Held P m c (cells live) (cells store) starts → Ready plan m (cells live) → after ≡ counts_of m')
-      {a b code : ℕ} (x : a ≡ room live) (y : b ≡ room store) (e : code ≡ refusal_by (record { live = a; store = b }) after) where
-    pub judge_refused : (code ≡ 0 → ⊥) → Judges plan n c live store starts (Refused code)
-    judge_refused ne = record { judged = λ P m m' args g d h r. (judged_is live store x y e (k P m m' args g d h r), some code ne) }
+      {a b : ℕ} {w : Result (Unit {0}) Refusal} (x : a ≡ room live) (y : b ≡ room store) (e : number_of w ≡ refusal_by (record { live = a; store = b }) after) where
+    pub judge_refused : {o : Refusal} → w ≡ Err o → Judges plan n c live store starts (Err o)
+    judge_refused {o} is = record { judged = λ P m m' args g d h r. (sym (ap number_of is) ∙ judged_is live store x y e (k P m m' args g d h r), numbered o) }
 
-    pub judge_done : code ≡ 0 → Judges plan n c live store starts (Done after)
-    judge_done z = record { judged = λ P m m' args g d h r. (sym (judged_is live store x y e (k P m m' args g d h r)) ∙ z, k P m m' args g d h r) }
+    pub judge_done : {o : Unit {0}} → w ≡ Ok o → Judges plan n c live store starts (Ok after)
+    judge_done is = record { judged = λ P m m' args g d h r. (sym (judged_is live store x y e (k P m m' args g d h r)) ∙ ap number_of is, k P m m' args g d h r) }
 
 -- ---- What stays as it was
 same_refl : (a : List ℕ) → Same a a
@@ -143,8 +161,8 @@ module _ {plan : Plan} (bytes : List ℕ) {c : Counts} {g left : Running} {state
         small = subst (λ (k : ℕ). Small c k live store starts) (length_cells bytes ∙ sym q) o.small;
       }
 
-      module _ {d : Acted} {after : Counts} {live₁ : List ℕ} (j : Judges plan n c live store starts d) (e : d ≡ Done after) (s : Settles left live live₁) where
-        pub over_judged : JudgedAs (rooms_of live store) o.after (Done after)
+      module _ {d : Result Counts Refusal} {after : Counts} {live₁ : List ℕ} (j : Judges plan n c live store starts d) (e : d ≡ Ok after) (s : Settles left live live₁) where
+        pub over_judged : JudgedAs (rooms_of live store) o.after (Ok after)
         over_judged = subst (JudgedAs (rooms_of live store) o.after) e (j.judged o.program o.leaves o.after (cells bytes) (length_cells bytes ∙ sym q) o.carries o.held o.ready)
 
         unfoldable pub over_carries : Carriable plan (cells bytes) c state live₁ store starts
@@ -163,7 +181,7 @@ module _ {plan : Plan} (bytes : List ℕ) {c : Counts} {g left : Running} {state
             }
 
         pub over_done : {state' live' store' starts' : List ℕ} → CarriesOut plan (cells bytes) c state live₁ store starts state' live' store' starts'
-            → ActsOver plan (cells bytes) c g left (Done after) state live store starts state' live' store' starts'
+            → ActsOver plan (cells bytes) c g left (Ok after) state live store starts state' live' store' starts'
         unfolding over_carries
         over_done {state'} {live'} {store'} {starts'} x = record {
           acts = λ P m m_f m' ch h r y b.
@@ -174,8 +192,8 @@ module _ {plan : Plan} (bytes : List ℕ) {c : Counts} {g left : Running} {state
           appends = carried_appends over_carries over_judged.1 x;
         }
 
-  module _ {n : ℕ} (q : n ≡ room bytes) {d : Acted} (j : Judges plan n c live store starts d) where
-    pub over_refused : {k : ℕ} {live₁ : List ℕ} → d ≡ Refused k → Settles g live live₁ → ActsOver plan (cells bytes) c g left (Refused k) state live store starts state live₁ store starts
+  module _ {n : ℕ} (q : n ≡ room bytes) {d : Result Counts Refusal} (j : Judges plan n c live store starts d) where
+    pub over_refused : {k : Refusal} {live₁ : List ℕ} → d ≡ Err k → Settles g live live₁ → ActsOver plan (cells bytes) c g left (Err k) state live store starts state live₁ store starts
     over_refused e s = record {
       acts = λ P m m_f m' ch h r y b.
           let k = subst (JudgedAs (rooms_of live store) m') e (j.judged P m_f m' (cells bytes) (length_cells bytes ∙ sym q) y h r) in
@@ -183,9 +201,6 @@ module _ {plan : Plan} (bytes : List ℕ) {c : Counts} {g left : Running} {state
       bounded = bounded_settled state store starts s;
       appends = appends_refl c.store store;
     }
-
-    pub over_failed : {k : Counts} → Overable plan (cells bytes) c g left state live store starts → d ≡ Failed k → ActsOver plan (cells bytes) c g left (Failed k) state live store starts state live store starts
-    over_failed o e = absurd (subst (JudgedAs (rooms_of live store) o.after) e (j.judged o.program o.leaves o.after (cells bytes) (length_cells bytes ∙ sym q) o.carries o.held o.ready))
 
 -- ---- A plan once the running frame is gone
 pub gone_live : {m m_f : M} {g : Running} {L : List Cell} → Gone m m_f g L → Live m_f.frames L
@@ -216,8 +231,8 @@ module _ {plan : Plan} (bytes : List ℕ) {c : Counts} {g : Running} {state live
         small = subst (λ (k : ℕ). Small c k live store starts) (length_cells bytes ∙ sym q) o.small;
       }
 
-      module _ {d : Acted} {after : Counts} (j : Judges plan n c live store starts d) (e : d ≡ Done after) where
-        pub below_judged : JudgedAs (rooms_of live store) o.after (Done after)
+      module _ {d : Result Counts Refusal} {after : Counts} (j : Judges plan n c live store starts d) (e : d ≡ Ok after) where
+        pub below_judged : JudgedAs (rooms_of live store) o.after (Ok after)
         below_judged = subst (JudgedAs (rooms_of live store) o.after) e (j.judged o.program o.leaves o.after (cells bytes) (length_cells bytes ∙ sym q) o.carries o.held o.ready)
 
         unfoldable pub below_carries : Carriable plan (cells bytes) c state live store starts
@@ -236,7 +251,7 @@ module _ {plan : Plan} (bytes : List ℕ) {c : Counts} {g : Running} {state live
             }
 
         pub below_done : {state' live' store' starts' : List ℕ} → CarriesOut plan (cells bytes) c state live store starts state' live' store' starts'
-            → ActsBelow plan (cells bytes) c g (Done after) state live store starts state' live' store' starts'
+            → ActsBelow plan (cells bytes) c g (Ok after) state live store starts state' live' store' starts'
         unfolding below_carries
         below_done {state'} {live'} {store'} {starts'} x = record {
           acts = λ P m m_f m' go h bm r y b.
@@ -247,8 +262,8 @@ module _ {plan : Plan} (bytes : List ℕ) {c : Counts} {g : Running} {state live
           appends = carried_appends below_carries below_judged.1 x;
         }
 
-  module _ {n : ℕ} (q : n ≡ room bytes) {d : Acted} (j : Judges plan n c live store starts d) where
-    pub below_refused : {k : ℕ} {live₁ : List ℕ} → d ≡ Refused k → Settles g live live₁ → ActsBelow plan (cells bytes) c g (Refused k) state live store starts state live₁ store starts
+  module _ {n : ℕ} (q : n ≡ room bytes) {d : Result Counts Refusal} (j : Judges plan n c live store starts d) where
+    pub below_refused : {k : Refusal} {live₁ : List ℕ} → d ≡ Err k → Settles g live live₁ → ActsBelow plan (cells bytes) c g (Err k) state live store starts state live₁ store starts
     below_refused e s = record {
       acts = λ P m m_f m' go h bm r y b.
           let k = subst (JudgedAs (rooms_of live store) m') e (j.judged P m_f m' (cells bytes) (length_cells bytes ∙ sym q) y h r) in
@@ -256,6 +271,3 @@ module _ {plan : Plan} (bytes : List ℕ) {c : Counts} {g : Running} {state live
       bounded = bounded_settled state store starts s;
       appends = appends_refl c.store store;
     }
-
-    pub below_failed : {k : Counts} → Belowable plan (cells bytes) c g state live store starts → d ≡ Failed k → ActsBelow plan (cells bytes) c g (Failed k) state live store starts state live store starts
-    below_failed o e = absurd (subst (JudgedAs (rooms_of live store) o.after) e (j.judged o.program o.leaves o.after (cells bytes) (length_cells bytes ∙ sym q) o.carries o.held o.ready))

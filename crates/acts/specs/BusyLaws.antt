@@ -1,5 +1,5 @@
 -- A machine that runs a Lucia frame in registers: what its next opcode is, and what memory holds of it once the frame is changed or gone.
-use Rattle.std.specs.Prelude.{◌≡◌, refl, List, [], ◌∷◌, true, ℕ, ◌+◌, ◌-◌, ◌<◌, ◌≤◌, length, get_or, drop, eqb}
+use Rattle.std.specs.Prelude.{◌≡◌, refl, List, [], ◌∷◌, true, ℕ, ◌+◌, ◌-◌, ◌<◌, ◌≤◌, length, get_or, drop, eqb, Result, Ok, Err}
 use Rattle.std.proofs.Common.{sym, ap, ◌∙◌, arith, ne_eqb}
 use Rattle.std.proofs.Math.Path.{subst}
 use Rattle.cells.specs.Cells.{null, room, cells}
@@ -7,9 +7,9 @@ use Rattle.cells.specs.CellsLaws.{length_cells}
 use Rattle.cells.specs.declared.Cell.{Cell}
 use Rattle.image.specs.Records.{if?}
 use Rattle.machine.specs.Values.{Program}
-use Rattle.machine.specs.Machine.{Handler, Frame, lucia, Object, M, with_frames, handlers_of, used}
+use Rattle.machine.specs.Machine.{Handler, Frame, lucia, Object, M, with_frames, handlers_of}
 use Rattle.machine.specs.Opcodes.{Action, doing, Taken, takes, opcode_action, next_action}
-use Rattle.machine.specs.Calls.{Sizes, top_handlers, handlers_left, does, stops, outcome, Pace, pace_of, is_value}
+use Rattle.machine.specs.Calls.{Sizes, top_handlers, handlers_left, does, stops, outcome, Pace, failing, pace_of, is_value}
 use Rattle.machine.specs.Demand.{All}
 use Rattle.machine.specs.Form.{FrameFits}
 use Rattle.machine.proofs.FormRules.{carries}
@@ -20,26 +20,27 @@ use Rattle.moves.specs.Runs.{Top, Runs, lucia_written, end_of, Settles, pop_top,
 use Rattle.moves.specs.Frames.{Live}
 use Rattle.moves.specs.declared.Running as registers
 use Rattle.plan.specs.Rest.{counts_of, Held, Rests}
+use Rattle.plan.specs.declared.Counts.{Counts}
 use Rattle.plan.specs.declared.Plan.{Plan}
 use Rattle.plan.specs.declared.Plan.TheVariants.{Starts, Resumes, Handles, Catches, Unhandled, Fails, Receives, Returns, Stays}
 use Rattle.counts.specs.Counted.{refusal_by, Ready}
 use Rattle.counts.specs.Judged.{judged}
 use Rattle.steps.specs.SteppedLaws.{next_is}
 use Rattle.slices.specs.SlicedLaws.{past_frame, at_given}
-use Rattle.acts.specs.Acted.{rooms_of, Small, Changed, Gone, ActedOn, Acts, Busy, left_of, Opcode}
+use Rattle.acts.specs.Acted.{rooms_of, Small, Changed, Gone, ActedOn, Acts, as_done, as_failed, Busy, left_of, Opcode}
 use Rattle.acts.specs.Left.{top_room, held_over, held_under}
 use Rattle.acts.specs.ActedLaws.{settled_rests}
-use Rattle.acts.specs.declared.Acted.{Acted}
-use Rattle.acts.specs.declared.Acted.TheVariants.{Refused, Done, Failed}
+use Rattle.refusals.specs.declared.Refusal.{Refusal}
+use Rattle.refusals.specs.Refusals.{number}
 
 -- ---- What a judged plan is to the machine
-pub acted_acts : (P : Program) (z : Sizes) (m : M) {pace : Pace} {d : Action} (B L S : List Cell) (starts : List ℕ) (r : Acted) → next_action P m m.frames ≡ takes d → pace_of d ≡ pace → handlers_left d ≤ 16 → ActedOn z m (doing P d m) r B L S starts → Acts P z m pace r B L S starts
+pub acted_acts : (P : Program) (z : Sizes) (m : M) {pace : Pace} {d : Action} (B L S : List Cell) (starts : List ℕ) (r : Result Counts Refusal) → next_action P m m.frames ≡ takes d → pace_of d ≡ pace → handlers_left d ≤ 16 → ActedOn z m (doing P d m) r B L S starts → Acts P z m pace (as_done r) B L S starts
 unfolding outcome
-acted_acts P z m {d = d} B L S starts (Refused n) q p h x =
+acted_acts P z m {d = d} B L S starts (Err n) q p h x =
     let k = refusal_by z (counts_of (doing P d m)) in
-    let s : if? (eqb k 0) (does d (doing P d m)) (stops k) ≡ stops n = rw (ne_eqb k 0 (λ e. omega (arith, e, x.0, x.1))) (ap stops (sym x.0)) in
+    let s : if? (eqb k 0) (does d (doing P d m)) (stops k) ≡ stops (number n) = rw (ne_eqb k 0 (λ e. omega (arith, e, x.0, x.1))) (ap stops (sym x.0)) in
     (ap (λ (t : Taken). outcome P z t m) q ∙ judged z d (doing P d m) h ∙ s, x.2)
-acted_acts P z m {d = d} B L S starts (Done c) q p h x =
+acted_acts P z m {d = d} B L S starts (Ok c) q p h x =
     let k = refusal_by z (counts_of (doing P d m)) in
     let s : if? (eqb k 0) (does d (doing P d m)) (stops k) ≡ does d (doing P d m) = rw x.0 refl in
     record {
@@ -49,7 +50,11 @@ acted_acts P z m {d = d} B L S starts (Done c) q p h x =
       paces = p;
       rests = x.2;
     }
-acted_acts P z m B L S starts (Failed c) q p h x = absurd x
+
+-- at the pace of an error what is done is what is thrown
+pub failed_acts : (P : Program) (z : Sizes) (m : M) (B L S : List Cell) (starts : List ℕ) (r : Result Counts Refusal) → Acts P z m failing (as_done r) B L S starts → Acts P z m failing (as_failed r) B L S starts
+failed_acts P z m B L S starts (Err n) x = x
+failed_acts P z m B L S starts (Ok c) x = x
 
 -- what is left below is written
 pub ready_under : (m : M) (L : List Cell) (plan : Plan) → Live m.frames L → Ready plan m L

@@ -1,5 +1,5 @@
 -- A resume that surely has room is carried out unjudged, so that its frames are walked over once; what the machine has then is read off the top frame.
-use Rattle.std.specs.Prelude.{◌≡◌, Bool, true, false, ℕ, ◌+◌, ◌-◌, ◌/◌, ◌<◌, ◌≤◌, drop, ltb}
+use Rattle.std.specs.Prelude.{◌≡◌, Bool, true, false, ℕ, ◌+◌, ◌-◌, ◌/◌, ◌<◌, ◌≤◌, drop, ltb, Option, Some, Ok}
 use Rattle.std.proofs.Math.Path.{refl, sym, ap, subst}
 use Rattle.std.proofs.Common.{◌∙◌, arith, ltb-true}
 use mathlib.Core.List.{List, [], ◌∷◌, ◌++◌}
@@ -30,7 +30,6 @@ use Rattle.actions.specs.Acted.{Carriable, CarriesOut}
 use Rattle.acts.specs.Acted.{rooms_of, Judgeable, Eases, Standing, standing_counts, Overable, ActsOver, Belowable, ActsBelow}
 use Rattle.acts.specs.Left.{lower_under, top_cost}
 use Rattle.acts.specs.ActedLaws.{some, over_judged, over_carries, over_done, below_judged, below_carries, below_done}
-use Rattle.acts.specs.declared.Acted.TheVariants.{Done}
 
 -- ---- There is room
 room_there : (z : Sizes) (c : Counts) → c.frames ≤ 256 → c.live ≤ z.live → c.store ≤ z.store → refusal_by z c ≡ 0
@@ -73,8 +72,9 @@ resumes_most {m = m} {m'} {c} {S = S} {h = h} {v} o s =
     omega (arith, ap (λ (x : Counts). x.live) k, ap (λ (x : M). frames_cost x.frames + result_cost x.result) s.after, cost_append (put_back v s.frames) m.frames, back_most v s.frames, head_size t, ap (λ (x : Counts). x.live) o.counts)
 
 module _ {plan : Plan} {n : ℕ} {c : Counts} {live store starts : List ℕ} where
-  pub eases_none : Eases plan n c live store starts 0
-  eases_none = record { eased = λ no. absurd (no refl) }
+  -- it is known
+  pub eases_some : {found : Option ℕ} {more : ℕ} → Eases plan n c live store starts found → found ≡ Some more → Eases plan n c live store starts (Some more)
+  eases_some z is = subst (λ (x : Option ℕ). Eases plan n c live store starts x) is z
 
   module _ {h : ℕ} {v : Cell} (e : plan ≡ Resumes h v) (j : Judgeable plan n c live store starts) where
     does : Resumed h v j.machine j.after
@@ -86,10 +86,11 @@ module _ {plan : Plan} {n : ℕ} {c : Counts} {live store starts : List ℕ} whe
     pub easy_size : (get_or (cells store) h null).payload < 4294967296
     easy_size = let t = object_there j.held.store does.there in omega (arith, head_size t, cost_fits t, length_cells store, j.small.few.1)
 
-    pub eases : {count size r : ℕ} → count ≡ (get_or (cells store) h null).number → size ≡ (get_or (cells store) h null).payload → r ≡ room live → c.frames + count ≤ 256 → c.live + size + 1 ≤ r
-        → Eases plan n c live store starts count
-    eases {count} {size} {r} a b d f l = record {
-      eased = λ no. record {
+    pub eases : {count size r : ℕ} → (count ≡ 0 → ⊥) → count ≡ (get_or (cells store) h null).number → size ≡ (get_or (cells store) h null).payload → r ≡ room live → c.frames + count ≤ 256 → c.live + size + 1 ≤ r
+        → Eases plan n c live store starts (Some count)
+    eases {count} {size} {r} ne a b d f l = (
+      some count ne,
+      record {
         after = resumed_counts c h (cells store);
         judges = record {
           judged = λ P m m' args g y o x.
@@ -103,8 +104,8 @@ module _ {plan : Plan} {n : ℕ} {c : Counts} {live store starts : List ℕ} whe
         frames = omega arith;
         uses = refl;
         runs = λ P args m m' y. ap (λ (x : M). x.result) (subst (λ (p : Plan). Carries P p args m m') e y).after;
-      };
-    }
+      },
+    )
 
 -- ---- What stands once the frames are put back
 lower_all : (F : List Frame) → lower (length F) F ≡ F
@@ -129,7 +130,7 @@ standing_is L starts frames u e q =
 
 module _ {plan : Plan} {args : List Cell} {c after : Counts} {more : ℕ} {state live store starts state' live' store' starts' : List ℕ}
     (k : Carriable plan args c state live store starts) (x : CarriesOut plan args c state live store starts state' live' store' starts')
-    (w : after ≡ counts_of k.after) (f : after.frames ≡ c.frames + more) (u : after.store ≡ c.store) (same : k.after.result ≡ k.machine.result) (no : more ≡ 0 → ⊥) where
+    (w : after ≡ counts_of k.after) (f : after.frames ≡ c.frames + more) (u : after.store ≡ c.store) (same : k.after.result ≡ k.machine.result) (lt : 0 < more) where
   runs : k.after.result ≡ running
   runs = same ∙ k.held.running
 
@@ -144,7 +145,7 @@ module _ {plan : Plan} {args : List Cell} {c after : Counts} {more : ℕ} {state
   there =
       let l : length k.after.frames ≡ c.frames + more = ap (λ (i : Counts). i.frames) (sym w) ∙ f in
       let r : room live' ≡ room live = ap (λ (i : ℕ). i / 16) x.same_live.len in
-      top_stands starts' k.after.frames l (omega (arith, some more no)) (omega (arith, l, k.behind.table, x.table)) (omega (arith, length_cells live', r, k.behind.small.0)) all_live rests.begins
+      top_stands starts' k.after.frames l (omega (arith, lt)) (omega (arith, l, k.behind.table, x.table)) (omega (arith, length_cells live', r, k.behind.small.0)) all_live rests.begins
 
   carried_counts : {r : Counts} → r ≡ standing_counts (cells live') starts' (c.frames + more) c.store → r ≡ after
   unfolding result_cost
@@ -157,53 +158,53 @@ module _ {plan : Plan} {args : List Cell} {c after : Counts} {more : ℕ} {state
 
 -- ---- A plan over the running frame, or once it is gone
 module _ {plan : Plan} (bytes : List ℕ) {c : Counts} {g left : Running} {state live store starts : List ℕ} {n more : ℕ} (o : Overable plan (cells bytes) c g left state live store starts) (q : n ≡ room bytes)
-    (z : Eases plan n c live store starts more) (no : more ≡ 0 → ⊥) {live₁ : List ℕ} (s : Settles left live live₁) where
+    (z : Eases plan n c live store starts (Some more)) {live₁ : List ℕ} (s : Settles left live live₁) where
   unfoldable pub over_easy : Carriable plan (cells bytes) c state live₁ store starts
-  over_easy = over_carries bytes o q (z.eased no).judges refl s
+  over_easy = over_carries bytes o q z.1.judges refl s
 
-  is_over_lem : (z.eased no).after ≡ counts_of o.after
-  is_over_lem = (over_judged bytes o q (z.eased no).judges refl s).1
+  is_over_lem : z.1.after ≡ counts_of o.after
+  is_over_lem = (over_judged bytes o q z.1.judges refl s).1
 
   pub over_few : c.frames + more ≤ 256
   unfolding over_carries over_easy
-  over_few = omega (arith, ap (λ (i : Counts). i.frames) is_over_lem, (z.eased no).frames, over_easy.behind.table, o.small.whole)
+  over_few = omega (arith, ap (λ (i : Counts). i.frames) is_over_lem, z.1.frames, over_easy.behind.table, o.small.whole)
 
   module _ {state' live' store' starts' : List ℕ} (x : CarriesOut plan (cells bytes) c state live₁ store starts state' live' store' starts') where
     same_over : o.after.result ≡ o.leaves.result
-    same_over = (z.eased no).runs o.program (cells bytes) o.leaves o.after o.carries
+    same_over = z.1.runs o.program (cells bytes) o.leaves o.after o.carries
 
     pub over_stands : Standing (cells live') starts' (c.frames + more)
     unfolding over_carries over_easy
-    over_stands = (there over_easy x is_over_lem (z.eased no).frames (z.eased no).uses same_over no).0
+    over_stands = (there over_easy x is_over_lem z.1.frames z.1.uses same_over z.0).0
 
-    pub over_eased : {r : Counts} → r ≡ standing_counts (cells live') starts' (c.frames + more) c.store → ActsOver plan (cells bytes) c g left (Done r) state live store starts state' live' store' starts'
+    pub over_eased : {r : Counts} → r ≡ standing_counts (cells live') starts' (c.frames + more) c.store → ActsOver plan (cells bytes) c g left (Ok r) state live store starts state' live' store' starts'
     unfolding over_carries over_easy
     over_eased e =
-        let w = carried_counts over_easy x is_over_lem (z.eased no).frames (z.eased no).uses same_over no e in
-        subst (λ (i : Counts). ActsOver plan (cells bytes) c g left (Done i) state live store starts state' live' store' starts') (sym w) (over_done bytes o q (z.eased no).judges refl s x)
+        let w = carried_counts over_easy x is_over_lem z.1.frames z.1.uses same_over z.0 e in
+        subst (λ (i : Counts). ActsOver plan (cells bytes) c g left (Ok i) state live store starts state' live' store' starts') (sym w) (over_done bytes o q z.1.judges refl s x)
 
 module _ {plan : Plan} (bytes : List ℕ) {c : Counts} {g : Running} {state live store starts : List ℕ} {n more : ℕ} (o : Belowable plan (cells bytes) c g state live store starts) (q : n ≡ room bytes)
-    (z : Eases plan n c live store starts more) (no : more ≡ 0 → ⊥) where
+    (z : Eases plan n c live store starts (Some more)) where
   unfoldable pub below_easy : Carriable plan (cells bytes) c state live store starts
-  below_easy = below_carries bytes o q (z.eased no).judges refl
+  below_easy = below_carries bytes o q z.1.judges refl
 
-  is_below : (z.eased no).after ≡ counts_of o.after
-  is_below = (below_judged bytes o q (z.eased no).judges refl).1
+  is_below : z.1.after ≡ counts_of o.after
+  is_below = (below_judged bytes o q z.1.judges refl).1
 
   pub below_few : c.frames + more ≤ 256
   unfolding below_carries below_easy
-  below_few = omega (arith, ap (λ (i : Counts). i.frames) is_below, (z.eased no).frames, below_easy.behind.table, o.small.whole)
+  below_few = omega (arith, ap (λ (i : Counts). i.frames) is_below, z.1.frames, below_easy.behind.table, o.small.whole)
 
   module _ {state' live' store' starts' : List ℕ} (x : CarriesOut plan (cells bytes) c state live store starts state' live' store' starts') where
     same_below : o.after.result ≡ o.leaves.result
-    same_below = (z.eased no).runs o.program (cells bytes) o.leaves o.after o.carries
+    same_below = z.1.runs o.program (cells bytes) o.leaves o.after o.carries
 
     pub below_stands : Standing (cells live') starts' (c.frames + more)
     unfolding below_carries below_easy
-    below_stands = (there below_easy x is_below (z.eased no).frames (z.eased no).uses same_below no).0
+    below_stands = (there below_easy x is_below z.1.frames z.1.uses same_below z.0).0
 
-    pub below_eased : {r : Counts} → r ≡ standing_counts (cells live') starts' (c.frames + more) c.store → ActsBelow plan (cells bytes) c g (Done r) state live store starts state' live' store' starts'
+    pub below_eased : {r : Counts} → r ≡ standing_counts (cells live') starts' (c.frames + more) c.store → ActsBelow plan (cells bytes) c g (Ok r) state live store starts state' live' store' starts'
     unfolding below_carries below_easy
     below_eased e =
-        let w = carried_counts below_easy x is_below (z.eased no).frames (z.eased no).uses same_below no e in
-        subst (λ (i : Counts). ActsBelow plan (cells bytes) c g (Done i) state live store starts state' live' store' starts') (sym w) (below_done bytes o q (z.eased no).judges refl x)
+        let w = carried_counts below_easy x is_below z.1.frames z.1.uses same_below z.0 e in
+        subst (λ (i : Counts). ActsBelow plan (cells bytes) c g (Ok i) state live store starts state' live' store' starts') (sym w) (below_done bytes o q z.1.judges refl x)

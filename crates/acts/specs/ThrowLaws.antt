@@ -1,5 +1,5 @@
 -- An opcode's own error, thrown over the frame left.
-use Rattle.std.specs.Prelude.{◌≡◌, List, [], ℕ, ◌<◌, length}
+use Rattle.std.specs.Prelude.{◌≡◌, List, [], ℕ, ◌<◌, length, Result}
 use Rattle.std.proofs.Math.Path.{refl, subst}
 use Rattle.std.proofs.Common.{sym, ap, ◌∙◌, arith}
 use Rattle.cells.specs.Cells.{cells}
@@ -11,21 +11,18 @@ use Rattle.machine.specs.Opcodes.{doing}
 use Rattle.machine.specs.Calls.{Sizes, handlers_left, failing, pace_of}
 use Rattle.moves.specs.Runs.{end_of}
 use Rattle.moves.specs.declared.Running as registers
-use Rattle.plan.specs.Rest.{Appends}
 use Rattle.plan.specs.Inside.{left}
 use Rattle.plan.specs.Plans.{Carries}
-use Rattle.plan.specs.Searches.{Lies}
 use Rattle.plan.specs.declared.Counts.{Counts}
 use Rattle.plan.specs.declared.Error.{Error}
 use Rattle.plan.specs.declared.Plan.{Plan}
 use Rattle.counts.specs.Counted.{Ready}
 use Rattle.calls.specs.Called.{ThrowsError}
-use Rattle.acts.specs.Acted.{ActedOn, used_then, Overable, ActsOver, Acts, Busy, Thrown, Failable, Fails}
+use Rattle.acts.specs.Acted.{ActedOn, Overable, ActsOver, Acts, as_failed, Busy, Thrown, Failable, Fails}
 use Rattle.acts.specs.Left.{top_room}
 use Rattle.acts.specs.Apart.{throw_apart, ready_over}
-use Rattle.acts.specs.BusyLaws.{acted_acts, busy_place, busy_changed, busy_held, busy_sizes, busy_small, busy_room}
-use Rattle.acts.specs.declared.Acted.{Acted}
-use Rattle.acts.specs.declared.Acted.TheVariants.{Refused, Done, Failed}
+use Rattle.acts.specs.BusyLaws.{acted_acts, failed_acts, busy_place, busy_changed, busy_held, busy_sizes, busy_small, busy_room}
+use Rattle.refusals.specs.declared.Refusal.{Refusal}
 
 module _ {P : Program} {z : Sizes} {m : M} {g : registers.Running} {u frames : ℕ} {B L S : List Cell} {starts : List ℕ} (b : Busy P z m g u frames B L S starts) {x : Error} {h : registers.Running} (t : Thrown P m b.frame x h L) where
   -- the machine over which the error is thrown, and what it leads to
@@ -47,18 +44,6 @@ module _ {P : Program} {z : Sizes} {m : M} {g : registers.Running} {u frames : �
 
 module _ {P : Program} {frames u : ℕ} {g h : registers.Running} {x : Error} {state live store starts : List ℕ} where
   module _ (k : Failable P frames u g h x state live store starts) where
-    pub fail_lies : Lies frames (cells live) starts
-    unfolding thrown_count
-    fail_lies =
-        let b = k.busy in
-        let t = k.threw in
-        record {
-          frames = (thrown_over b t).frames;
-          count = thrown_count b t;
-          under = (busy_held b t.runs refl).under;
-          table = omega (arith, b.table, b.count, b.inside.fits.few);
-        }
-
     pub fail_ends : end_of h < 18446744073709551616
     fail_ends = omega (arith, (top_room live k.threw.runs).0, busy_room live store k.busy)
 
@@ -81,35 +66,14 @@ module _ {P : Program} {frames u : ℕ} {g h : registers.Running} {x : Error} {s
           len = k.len;
         }
 
-  module _ {plan : Plan} {args : List Cell} {e : ℕ} {d : Acted} {state' live' store' starts' : List ℕ} (w : ThrowsError P frames 1 x (cells live) starts plan) (q : e ≡ end_of h)
+  module _ {plan : Plan} {args : List Cell} {e : ℕ} {d : Result Counts Refusal} {state' live' store' starts' : List ℕ} (w : ThrowsError P frames 1 x (cells live) starts plan) (q : e ≡ end_of h)
       (a : ActsOver plan args (record { frames = frames; live = e; store = u }) g h d state live store starts state' live' store' starts') where
-    thrown_acts : (z : Sizes) (m : M) (b : Busy P z m g u frames (cells state) (cells live) (cells store) starts) → Thrown P m b.frame x h (cells live) → Acts P z m failing d (cells state') (cells live') (cells store') starts'
+    thrown_acts : (z : Sizes) (m : M) (b : Busy P z m g u frames (cells state) (cells live) (cells store) starts) → Thrown P m b.frame x h (cells live) → Acts P z m failing (as_failed d) (cells state') (cells live') (cells store') starts'
     unfolding doing pace_of handlers_left
     thrown_acts z m b t =
         let y = a.acts P m (thrown_over b t) (thrown_to b t) (busy_changed b t.runs) (busy_held b t.runs q) (thrown_ready b t args w) (thrown_carries b t args w) b.block in
         let v = subst (λ (s : Sizes). ActedOn s m (thrown_to b t) d (cells state') (cells live') (cells store') starts') (sym (busy_sizes live store b)) y in
-        acted_acts P z m (cells state') (cells live') (cells store') starts' d t.throws refl (omega arith) v
+        failed_acts P z m (cells state') (cells live') (cells store') starts' d (acted_acts P z m (cells state') (cells live') (cells store') starts' d t.throws refl (omega arith) v)
 
-    pub fail_refused : {n : ℕ} → d ≡ Refused n → Fails P frames u g h x (Refused n) state live store starts state' live' store' starts'
-    fail_refused i = record {
-      acts = λ z m b t. subst (λ (r : Acted). Acts P z m failing r (cells state') (cells live') (cells store') starts') i (thrown_acts z m b t);
-      never = tt;
-      bounded = a.bounded;
-      appends = subst (λ (r : Acted). Appends u (used_then u r) store store') i a.appends;
-    }
-
-    pub fail_done : {c : Counts} → d ≡ Done c → Fails P frames u g h x (Failed c) state live store starts state' live' store' starts'
-    fail_done i = record {
-      acts = λ z m b t. subst (λ (r : Acted). Acts P z m failing r (cells state') (cells live') (cells store') starts') i (thrown_acts z m b t);
-      never = tt;
-      bounded = a.bounded;
-      appends = subst (λ (r : Acted). Appends u (used_then u r) store store') i a.appends;
-    }
-
-    pub fail_failed : {c : Counts} → d ≡ Failed c → Fails P frames u g h x (Failed c) state live store starts state' live' store' starts'
-    fail_failed i = record {
-      acts = λ z m b t. subst (λ (r : Acted). Acts P z m failing r (cells state') (cells live') (cells store') starts') i (thrown_acts z m b t);
-      never = tt;
-      bounded = a.bounded;
-      appends = subst (λ (r : Acted). Appends u (used_then u r) store store') i a.appends;
-    }
+    pub fail_throws : Fails P frames u g h x d state live store starts state' live' store' starts'
+    fail_throws = record { acts = thrown_acts; bounded = a.bounded; appends = a.appends }

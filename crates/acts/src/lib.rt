@@ -3,53 +3,58 @@
 
 ghost use Rattle.std.specs.Prelude.{◌≡◌, [], ◌≤◌, ◌<◌};
 ghost use Rattle.cells.specs.Cells.{cells};
-ghost use Rattle.scan.specs.Tables.{program_in};
+ghost use Rattle.scan.specs.Tables.{program_of};
 ghost use Rattle.plan.specs.declared.Plan.TheVariants.{Starts, Receives};
 ghost use Rattle.acts.specs.Acted.{Judgeable, Judges, Eases, Standing, standing_counts, Overable, ActsOver, Belowable, ActsBelow, left_of, Failable, Fails};
 
 use cells::Cell;
 use moves::Running;
 use plan::{Counts, Error, Params, Plan, Start};
+use refusals::Refusal;
 
-// Refused, or what the machine has then: the step is done, or its own error is thrown.
+// What a step that is not refused came to, with what the machine has then: it is done, or its own error is thrown.
 #[derive(Clone, Copy)]
 pub enum Acted {
-    Refused(u32),
     Done(Counts),
     Failed(Counts),
 }
 
-// A plan with n arguments is judged.
-fn judge(plan: Plan, n: usize, live: &[u8], store: &[u8], starts: &[u32], c: Counts) -> Acted
+// A plan with n arguments is judged: what the machine has after it.
+fn judge(
+    plan: Plan,
+    n: usize,
+    live: &[u8],
+    store: &[u8],
+    starts: &[u32],
+    c: Counts,
+) -> Result<Counts, Refusal>
     requires { Judgeable plan n c live.now store.now starts.now }
     ensures { Judges plan n c live.now store.now starts.now result }
 {
     let after = counts::counts_after(plan, n, live, store, starts, c);
-    let code = counts::refusal(after, cells::room(live), cells::room(store));
-    if code != 0 {
-        return Acted::Refused(code);
-    }
-    Acted::Done(after)
+    counts::check(after, cells::room(live), cells::room(store))?;
+    Ok(after)
 }
 
-// How many frames a resume puts on top that has room however much its last frame keeps; 0 where that is not known.
+// How many frames a resume puts on top that has room however much its last frame keeps, where that is known and there
+// are some.
 // To judge it as the others its frames would be walked over to the last one, and once more to put them back.
-fn easy(plan: Plan, n: usize, live: &[u8], store: &[u8], starts: &[u32], c: Counts) -> usize
+fn easy(plan: Plan, n: usize, live: &[u8], store: &[u8], starts: &[u32], c: Counts) -> Option<usize>
     requires { Judgeable plan n c live.now store.now starts.now }
     ensures { Eases plan n c live.now store.now starts.now result }
 {
     if let Plan::Resumes(handle, _) = plan {
         let count = cells::number(store, handle) as usize;
         let size = cells::payload(store, handle) as usize;
-        if c.frames + count > 256 {
-            return 0;
+        if count == 0 || c.frames + count > 256 {
+            return None;
         }
         if c.live + size + 1 > cells::room(live) {
-            return 0;
+            return None;
         }
-        return count;
+        return Some(count);
     }
-    0
+    None
 }
 
 // What a machine has whose frames stand.
@@ -77,28 +82,26 @@ pub fn over(
     c: Counts,
     g: Running,
     left: Running,
-) -> Acted
+) -> Result<Counts, Refusal>
     requires { Overable plan (cells args.now) c g left state.old live.old store.old starts.old }
     ensures { ActsOver plan (cells args.now) c g left result state.old live.old store.old starts.old state.new live.new store.new starts.new }
 {
     let n = cells::room(args);
-    let more = easy(plan, n, live, store, starts, c);
-    if more != 0 {
+    if let Some(more) = easy(plan, n, live, store, starts, c) {
         moves::settle(live, left);
         actions::carry(plan, args, state, live, store, starts, c);
-        return Acted::Done(standing(live, starts, c.frames + more, c.store));
+        return Ok(standing(live, starts, c.frames + more, c.store));
     }
     match judge(plan, n, live, store, starts, c) {
-        Acted::Refused(k) => {
+        Err(refusal) => {
             moves::settle(live, g);
-            Acted::Refused(k)
+            Err(refusal)
         }
-        Acted::Done(after) => {
+        Ok(after) => {
             moves::settle(live, left);
             actions::carry(plan, args, state, live, store, starts, c);
-            Acted::Done(after)
+            Ok(after)
         }
-        Acted::Failed(after) => Acted::Failed(after),
     }
 }
 
@@ -112,26 +115,24 @@ pub fn below(
     starts: &mut [u32],
     c: Counts,
     g: Running,
-) -> Acted
+) -> Result<Counts, Refusal>
     requires { Belowable plan (cells args.now) c g state.old live.old store.old starts.old }
     ensures { ActsBelow plan (cells args.now) c g result state.old live.old store.old starts.old state.new live.new store.new starts.new }
 {
     let n = cells::room(args);
-    let more = easy(plan, n, live, store, starts, c);
-    if more != 0 {
+    if let Some(more) = easy(plan, n, live, store, starts, c) {
         actions::carry(plan, args, state, live, store, starts, c);
-        return Acted::Done(standing(live, starts, c.frames + more, c.store));
+        return Ok(standing(live, starts, c.frames + more, c.store));
     }
     match judge(plan, n, live, store, starts, c) {
-        Acted::Refused(k) => {
+        Err(refusal) => {
             moves::settle(live, g);
-            Acted::Refused(k)
+            Err(refusal)
         }
-        Acted::Done(after) => {
+        Ok(after) => {
             actions::carry(plan, args, state, live, store, starts, c);
-            Acted::Done(after)
+            Ok(after)
         }
-        Acted::Failed(after) => Acted::Failed(after),
     }
 }
 
@@ -147,19 +148,18 @@ pub fn start(
     c: Counts,
     g: Running,
     left: Running,
-) -> Acted
+) -> Result<Counts, Refusal>
     requires { Overable (Starts f p) (cells args.now) c g left state.now live.old store.old starts.old }
     ensures { ActsOver (Starts f p) (cells args.now) c g left result state.now live.old store.old starts.old state.now live.new store.new starts.new }
 {
     let after = counts::started(c, f.locals as usize, p, cells::room(args));
-    let code = counts::refusal(after, cells::room(live), cells::room(store));
-    if code != 0 {
+    if let Err(refusal) = counts::check(after, cells::room(live), cells::room(store)) {
         moves::settle(live, g);
-        return Acted::Refused(code);
+        return Err(refusal);
     }
     moves::settle(live, left);
     actions::start_frame(live, store, starts, c, f, p, args);
-    Acted::Done(after)
+    Ok(after)
 }
 
 // A value for the top frame of those that are left once the running frame g is gone: what `below` does with the plan `Receives`. Returns are frequent, so that theirs goes through no plan.
@@ -171,19 +171,18 @@ pub fn receive(
     starts: &[u32],
     c: Counts,
     g: Running,
-) -> Acted
+) -> Result<Counts, Refusal>
     requires { Belowable (Receives v) (cells []) c g state.now live.old store.now starts.now }
     ensures { ActsBelow (Receives v) (cells []) c g result state.now live.old store.now starts.now state.now live.new store.now starts.now }
 {
     let after = counts::received(c, live, starts);
-    let code = counts::refusal(after, cells::room(live), cells::room(store));
-    if code != 0 {
+    if let Err(refusal) = counts::check(after, cells::room(live), cells::room(store)) {
         moves::settle(live, g);
-        return Acted::Refused(code);
+        return Err(refusal);
     }
     let top = c.frames - 1;
     placing::receive(live, starts[top] as usize, v);
-    Acted::Done(after)
+    Ok(after)
 }
 
 // The registers past the opcode, with so many values less.
@@ -192,21 +191,15 @@ pub fn left_of(g: Running, n: usize) -> Running
     ensures { result ≡ left_of g n }
 {
     Running {
-        base: g.base,
-        locals: g.locals,
-        handlers: g.handlers,
         stack: g.stack - n,
         place: g.place + 1,
+        ..g
     }
 }
 
-// An opcode's own error is thrown, over the frame left.
+// An opcode's own error is thrown, over the frame left: what the machine has after the throw.
 pub fn fail(
-    image: &[u8],
-    rows: &[u32],
-    constants: &[u32],
-    inner: &[u32],
-    codes: usize,
+    program: &lookups::Program,
     state: &mut [u8],
     live: &mut [u8],
     store: &mut [u8],
@@ -216,22 +209,16 @@ pub fn fail(
     g: Running,
     left: Running,
     x: Error,
-) -> Acted
-    requires { Failable (program_in image.now rows.now constants.now inner.now codes) frames used g left x state.old live.old store.old starts.old }
-    ensures { Fails (program_in image.now rows.now constants.now inner.now codes) frames used g left x result state.old live.old store.old starts.old state.new live.new store.new starts.new }
+) -> Result<Counts, Refusal>
+    requires { Failable (program_of program.now) frames used g left x state.old live.old store.old starts.old }
+    ensures { Fails (program_of program.now) frames used g left x result state.old live.old store.old starts.old state.new live.new store.new starts.new }
 {
-    let plan = calls::throw_error(
-        image, rows, constants, inner, codes, live, starts, frames, 1, x,
-    );
+    let plan = calls::throw_error(program, live, starts, frames, 1, x);
     let none = [0u8; 16];
     let c = Counts {
         frames,
         live: moves::end(left),
         store: used,
     };
-    match over(plan, &none[..0], state, live, store, starts, c, g, left) {
-        Acted::Refused(n) => Acted::Refused(n),
-        Acted::Done(after) => Acted::Failed(after),
-        Acted::Failed(after) => Acted::Failed(after),
-    }
+    over(plan, &none[..0], state, live, store, starts, c, g, left)
 }

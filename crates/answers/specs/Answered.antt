@@ -1,5 +1,5 @@
 -- What an answer does to its callback's frame: the word, and the different handlers.
-use Rattle.std.specs.Prelude.{◌≡◌, List, ◌∷◌, Bool, true, false, ℕ, ◌+◌, ◌*◌, ◌<◌, ◌≤◌, length, get_or, take}
+use Rattle.std.specs.Prelude.{◌≡◌, List, ◌∷◌, Bool, true, false, ℕ, ◌+◌, ◌*◌, ◌<◌, ◌≤◌, length, get_or, take, Option, IfSome, IfNone, Result, Ok, Err}
 use Rattle.cells.specs.Cells.{null, room, cells}
 use Rattle.cells.specs.declared.Cell.{Cell}
 use Rattle.machine.specs.Values.{Program, equal_effects}
@@ -8,19 +8,19 @@ use Rattle.machine.specs.Calls.{distinct}
 use Rattle.memory.specs.Layout.{flat}
 use Rattle.moves.specs.Frames.{Live}
 use Rattle.plan.specs.Rest.{Same, Begins}
-use Rattle.answers.specs.declared.Put.{Put}
-use Rattle.answers.specs.declared.Put.TheVariants.{TooMany, End}
+use Rattle.refusals.specs.declared.Refusal.{Refusal}
+use Rattle.refusals.specs.declared.Refusal.TheVariants.{ManyHandlers}
 
 -- r says whether e is equal to one of the first n
 pub record Among (P : Program) (kept : List Cell) (n : ℕ) (e : Cell) (r : Bool) : Type 0 where
   pub there : r ≡ true → (j : ℕ) × (j < n) × (equal_effects P (get_or kept j null) e ≡ true)
   pub absent : r ≡ false → (j : ℕ) → j < n → equal_effects P (get_or kept j null) e ≡ false
 
--- r is the number of different effects, up to 17, and at most 16 of them are kept in their order
-pub record Distinct (P : Program) (es : List Cell) (r : ℕ) (kept : List Cell) : Type 0 where
-  pub most : r ≤ 17
-  pub few : r ≤ 16 → take r kept ≡ distinct P (length es) es
-  pub many : r ≡ 17 → 16 < length (distinct P (length es) es)
+-- r is the number of different effects, which are kept in their order, or none where there are more than 16
+pub record Distinct (P : Program) (es : List Cell) (r : Option ℕ) (kept : List Cell) : Type 0 where
+  pub most : IfSome r (λ n. n ≤ 16)
+  pub few : IfSome r (λ n. take n kept ≡ distinct P (length es) es)
+  pub many : IfNone r (16 < length (distinct P (length es) es))
 
 -- a host callback's frame lies at `base`, the last
 pub record HostFrame (base n w : ℕ) (st hs : List Cell) (below : List Frame) (L : List Cell) : Type 0 where
@@ -91,6 +91,6 @@ pub record Puttable (base : ℕ) (work : List ℕ) : Type 0 where
   pub room : room work ≡ 4128
 
 -- 17 different ones are too many; else the frame has the different ones, and ends there
-abbrev pub PutsHandlers : Program → ℕ → List Cell → Put → List ℕ → List ℕ → Type 0
-PutsHandlers P base es TooMany work work' = (16 < length (distinct P (length es) es)) × Same work work'
-PutsHandlers P base es (End e) work work' = PutsDistinct base (distinct P (length es) es) e work work'
+abbrev pub PutsHandlers : Program → ℕ → List Cell → Result ℕ Refusal → List ℕ → List ℕ → Type 0
+PutsHandlers P base es (Err r) work work' = (r ≡ ManyHandlers) × (16 < length (distinct P (length es) es)) × Same work work'
+PutsHandlers P base es (Ok e) work work' = PutsDistinct base (distinct P (length es) es) e work work'

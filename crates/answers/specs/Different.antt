@@ -1,5 +1,5 @@
 -- The different effects of a list, one by one: what is kept, and what that leaves of the rest.
-use Rattle.std.specs.Prelude.{◌≡◌, Bool, get_or, set}
+use Rattle.std.specs.Prelude.{◌≡◌, Bool, get_or, set, Option, Some, None, IfSome, IfNone}
 use Rattle.std.proofs.Math.Path.{refl, sym, ap}
 use Rattle.std.proofs.Common.{◌∙◌, true≢false, add-one, length-append, drop-cons, get_or-take, length-take-le, take-suc-set}
 use mathlib.Core.List.{List, [], ◌∷◌, ◌++◌, append_assoc, append-nil}
@@ -125,11 +125,11 @@ module _ (P : Program) where
     total_more : length ks < length (total ks (e ∷ xs))
     total_more = omega (arith, length-append ks (different (without_all ks (e ∷ xs))), ap length first_new)
 
--- e goes behind the first n that are kept, unless one of them is equal to it; r are kept then, and 17 says that there is no place for it
-pub record Keeps (P : Program) (e : Cell) (n : ℕ) (old : List ℕ) (r : ℕ) (new : List ℕ) : Type 0 where
-  pub most : r ≤ 17
-  pub few : r ≤ 16 → (xs : List Cell) → total P (take n (cells old)) (e ∷ xs) ≡ total P (take r (cells new)) xs
-  pub many : r ≡ 17 → (xs : List Cell) → 16 < length (total P (take n (cells old)) (e ∷ xs))
+-- e goes behind the first n that are kept, unless one of them is equal to it; r are kept then, or there is no place for it
+pub record Keeps (P : Program) (e : Cell) (n : ℕ) (old : List ℕ) (r : Option ℕ) (new : List ℕ) : Type 0 where
+  pub most : IfSome r (λ k. k ≤ 16)
+  pub few : IfSome r (λ k. (xs : List Cell) → total P (take n (cells old)) (e ∷ xs) ≡ total P (take k (cells new)) xs)
+  pub many : IfNone r ((xs : List Cell) → 16 < length (total P (take n (cells old)) (e ∷ xs)))
 
 module _ {P : Program} {e : Cell} {n : ℕ} {t : Bool} (old : List ℕ) (fits : (n ≤ 16) × (16 ≤ room old)) (a : Among P (cells old) n e t) where
   length_kept : length (take n (cells old)) ≡ n
@@ -141,31 +141,31 @@ module _ {P : Program} {e : Cell} {n : ℕ} {t : Bool} (old : List ℕ) (fits : 
       let k : j < n = omega (arith, length_kept) in
       ap (λ (x : Cell). equal_effects P x e) (get_or-take n (cells old) j null k) ∙ a.absent f j k
 
-  pub keeps_old : t ≡ true → Keeps P e n old n old
+  pub keeps_old : t ≡ true → Keeps P e n old (Some n) old
   keeps_old f =
       let w = a.there f in
       record {
         most = omega (arith, fits.0);
-        few = λ q xs. total_drop P (take n (cells old)) e xs w.0 (omega (arith, w.1, length_kept)) (ap (λ (x : Cell). equal_effects P x e) (get_or-take n (cells old) w.0 null w.1) ∙ w.2);
-        many = λ q. absurd (omega (arith, fits.0));
+        few = λ xs. total_drop P (take n (cells old)) e xs w.0 (omega (arith, w.1, length_kept)) (ap (λ (x : Cell). equal_effects P x e) (get_or-take n (cells old) w.0 null w.1) ∙ w.2);
+        many = tt;
       }
 
-  pub keeps_many : t ≡ false → n ≡ 16 → Keeps P e n old 17 old
+  pub keeps_many : t ≡ false → n ≡ 16 → Keeps P e n old None old
   keeps_many f q = record {
-    most = omega arith;
-    few = λ r. absurd (omega arith);
-    many = λ r xs. omega (arith, total_more P (take n (cells old)) e xs (misses f), length_kept);
+    most = tt;
+    few = tt;
+    many = λ xs. omega (arith, total_more P (take n (cells old)) e xs (misses f), length_kept);
   }
 
-  pub keeps_new : {new : List ℕ} → t ≡ false → (n ≡ 16 → ⊥) → Writes old (set (cells old) n e) new → Keeps P e n old (n + 1) new
+  pub keeps_new : {new : List ℕ} → t ≡ false → (n ≡ 16 → ⊥) → Writes old (set (cells old) n e) new → Keeps P e n old (Some (n + 1)) new
   keeps_new {new} f ne u =
       let less : n < 16 = omega (arith, fits.0) in
       record {
         most = omega arith;
-        few = λ q xs.
+        few = λ xs.
             let k : take (n + 1) (cells new) ≡ take n (cells old) ++ (e ∷ []) = ap (take (n + 1)) u.cells ∙ rw add-one (take-suc-set (cells old) n e (omega (arith, less, fits.1, length_cells old))) in
             total_keep P (take n (cells old)) e xs (misses f) ∙ ap (λ (l : List Cell). total P l xs) (sym k);
-        many = λ q. absurd (omega arith);
+        many = tt;
       }
 
 -- ---- All of them
@@ -181,32 +181,31 @@ unfolding without_all
 sorted_none P es kept = record { within = omega arith; few = omega arith; whole = refl; len = refl }
 
 module _ {P : Program} (b : List ℕ) {all z n i : ℕ} {kept : List ℕ} (s : Sorted P (cells b) z n i kept) (q : all ≡ room b) where
-  module _ (lt : i < all) {e : Cell} {r : ℕ} {new : List ℕ} (is : (e ≡ get_or (cells b) i null) × Sound e) (k : Keeps P e n kept r new) where
+  module _ (lt : i < all) {e : Cell} {r : Option ℕ} {new : List ℕ} (is : (e ≡ get_or (cells b) i null) × Sound e) (k : Keeps P e n kept r new) where
     here : drop i (cells b) ≡ e ∷ drop (i + 1) (cells b)
     here = rw (is.0, add-one) (drop-cons (cells b) i null (omega (arith, length_cells b)))
 
     now_whole : total P (take n (cells kept)) (e ∷ drop (i + 1) (cells b)) ≡ different P (cells b)
     now_whole = ap (total P (take n (cells kept))) (sym here) ∙ s.whole
 
-    pub sorted_more : (r ≡ 17 → ⊥) → length new ≡ length kept → Sorted P (cells b) z r (i + 1) new
-    sorted_more ne l =
-        let m : r ≤ 16 = omega (arith, k.most) in
-        record { within = omega (arith, length_cells b); few = m; whole = sym (k.few m (drop (i + 1) (cells b))) ∙ now_whole; len = l ∙ s.len }
+    pub sorted_more : {m : ℕ} → r ≡ Some m → length new ≡ length kept → Sorted P (cells b) z m (i + 1) new
+    sorted_more w l =
+        let few : IfSome r (λ j. j ≤ 16) = k.most in
+        let moved = k.few in
+        record { within = omega (arith, length_cells b); few = rw w at few; whole = sym ((rw w at moved) (drop (i + 1) (cells b))) ∙ now_whole; len = l ∙ s.len }
 
-    pub distinct_many : r ≡ 17 → Distinct P (cells b) 17 (cells new)
-    distinct_many f = record {
-      most = omega arith;
-      few = λ h. absurd (omega arith);
-      many = λ h. omega (arith, k.many f (drop (i + 1) (cells b)), ap length now_whole);
-    }
+    pub distinct_many : r ≡ None → Distinct P (cells b) None (cells new)
+    distinct_many w =
+        let more = k.many in
+        record { most = tt; few = tt; many = omega (arith, (rw w at more) (drop (i + 1) (cells b)), ap length now_whole) }
 
-  pub distinct_few : all ≤ i → Distinct P (cells b) n (cells kept)
+  pub distinct_few : all ≤ i → Distinct P (cells b) (Some n) (cells kept)
   unfolding distinct
   distinct_few le = record {
-    most = omega (arith, s.few);
-    few = λ h.
+    most = s.few;
+    few =
         let K : List Cell = take n (cells kept) in
         let d : drop i (cells b) ≡ [] = drop_of_length-le (cells b) {i = i} (omega (arith, length_cells b)) in
         sym (append-nil K) ∙ ap (λ (l : List Cell). K ++ different P l) (sym (all_none P K)) ∙ ap (total P K) (sym d) ∙ s.whole;
-    many = λ h. absurd (omega (arith, s.few));
+    many = tt;
   }

@@ -1,5 +1,5 @@
 -- The different handlers of an answered call go into its frame: one law for each need, and one for each return.
-use Rattle.std.specs.Prelude.{◌≡◌, refl, List, ◌∷◌, ℕ, ◌+◌, ◌<◌, ◌≤◌, length, take}
+use Rattle.std.specs.Prelude.{◌≡◌, refl, List, ◌∷◌, ℕ, ◌+◌, ◌<◌, ◌≤◌, length, take, Option, Some, None}
 use Rattle.std.proofs.Common.{ap, subst, ◌∙◌, arith, length-take}
 use Rattle.cells.specs.Cells.{room, cells}
 use Rattle.cells.specs.CellsLaws.{length_cells}
@@ -13,10 +13,11 @@ use Rattle.moves.specs.Frames.{live_stands}
 use Rattle.moves.specs.declared.Running.{Running}
 use Rattle.plan.specs.Rest.{Same}
 use Rattle.answers.specs.Answered.{Distinct, HostFrame, Handleable, Rehandled, Puttable, PutsDistinct}
+use Rattle.refusals.specs.declared.Refusal.TheVariants.{ManyHandlers}
 use Rattle.answers.specs.LayLaws.{begins_other, live_fits_lem}
 
-pub puts_many : {P : Program} {es kept : List Cell} {r : ℕ} (work : List ℕ) → Distinct P es r kept → r ≡ 17 → (16 < length (distinct P (length es) es)) × Same work work
-puts_many work d e = (d.many e, record { rest = refl; len = refl })
+pub puts_many : {P : Program} {es kept : List Cell} {r : Option ℕ} (work : List ℕ) → Distinct P es r kept → r ≡ None → (ManyHandlers ≡ ManyHandlers) × (16 < length (distinct P (length es) es)) × Same work work
+puts_many work d e = let many = d.many in (refl, rw e at many, record { rest = refl; len = refl })
 
 -- where a frame ends that is opened
 ends_at : {base n w : ℕ} {st hs : List Cell} {below : List Frame} {L : List Cell} → HostFrame base n w st hs below L → end_of (opened L base) ≡ frames_cost (host n w st hs ∷ below)
@@ -25,9 +26,9 @@ ends_at {base} {n} {w} {st} {hs} {below} o =
     let t = opened_top base (live_stands o.live) o.begins in
     omega (arith, t.base, t.counts.locals, t.counts.handlers, t.counts.stack, cost_written (host n w st hs), length_flat below)
 
-pub put_handleable : {base r : ℕ} {work : List ℕ} (kept : List ℕ) → Puttable base work → r ≤ 17 → (r ≡ 17 → ⊥) → 16 ≤ room kept → Handleable base r (cells kept) work
+pub put_handleable : {P : Program} {es : List Cell} {base n : ℕ} {r : Option ℕ} {work : List ℕ} (kept : List ℕ) → Puttable base work → Distinct P es r (cells kept) → r ≡ Some n → 16 ≤ room kept → Handleable base n (cells kept) work
 unfolding frames_cost frame_cost
-put_handleable kept o most ne le = record {
+put_handleable {n = n} kept o d e le = let most = d.most in let few : n ≤ 16 = rw e at most in record {
   number = o.number;
   word = o.word;
   stack = o.stack;
@@ -50,10 +51,12 @@ module _ {base r : ℕ} {kept : List Cell} {work work' : List ℕ} (h : Rehandle
     pub put_ends : Puttable base work → end_of g < 18446744073709551616
     put_ends o = omega (arith, ends_where o.frame, live_fits_lem work' (h.frame _ _ _ _ _ o.frame).live, o.room, h.same.len)
 
-    pub puts : {P : Program} {es : List Cell} {e : ℕ} → Distinct P es r kept → (r ≡ 17 → ⊥) → e ≡ end_of g → PutsDistinct base (distinct P (length es) es) e work work'
-    puts {e = e} d ne p =
-        let few : r ≤ 16 = omega (arith, d.most) in
-        subst (λ (new : List Cell). PutsDistinct base new e work work') (d.few few) (record {
+    pub puts : {P : Program} {es : List Cell} {e : ℕ} {o : Option ℕ} → Distinct P es o kept → o ≡ Some r → e ≡ end_of g → PutsDistinct base (distinct P (length es) es) e work work'
+    puts {e = e} d q p =
+        let most = d.most in
+        let few : r ≤ 16 = rw q at most in
+        let kept_are = d.few in
+        subst (λ (new : List Cell). PutsDistinct base new e work work') (rw q at kept_are) (record {
           few = omega (arith, length-take r kept);
           laid = λ n w st hs below end starts b l.
               let x : HostFrame base n w st hs below (cells work) = record { live = l.live; begins = b } in

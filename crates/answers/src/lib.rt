@@ -3,95 +3,61 @@
 
 ghost use Rattle.std.specs.Prelude.{◌+◌, ◌≤◌};
 ghost use Rattle.cells.specs.Cells.{room, cells};
-ghost use Rattle.scan.specs.Tables.{program_in};
+ghost use Rattle.scan.specs.Tables.{program_of};
 ghost use Rattle.answers.specs.Answered.{Among, Distinct, Worded, Handleable, Rehandled, Layable, Lays, Puttable, PutsHandlers};
 ghost use Rattle.answers.specs.Different.{Keeps};
 
 use cells::Cell;
-
-// Handlers that are put in: 17 different ones are too many; else where the frame ends then.
-#[derive(Clone, Copy)]
-pub enum Put {
-    TooMany,
-    End(usize),
-}
+use refusals::Refusal;
 
 // Is an effect equal to one of the first n that are kept?
-fn among(
-    image: &[u8],
-    rows: &[u32],
-    constants: &[u32],
-    inner: &[u32],
-    codes: usize,
-    kept: &[u8],
-    n: usize,
-    e: Cell,
-) -> bool
+#[tactic(auto, using(crate::specs::Different::missed_none, crate::specs::Different::missed_more, crate::specs::Different::among_here, crate::specs::Different::among_none))]
+fn among(program: &lookups::Program, kept: &[u8], n: usize, e: Cell) -> bool
     requires { n ≤ room kept.now }
-    ensures { Among (program_in image.now rows.now constants.now inner.now codes) (cells kept.now) n e result }
+    ensures { Among (program_of program.now) (cells kept.now) n e result }
 {
-    let mut j = 0;
-    while j < n {
-        if effects::equal_effects(image, rows, constants, inner, codes, cells::get(kept, j), e) {
+    for j in 0..n {
+        if effects::equal_effects(program, cells::get(kept, j), e) {
             return true;
         }
-        j += 1;
     }
     false
 }
 
-// An effect goes behind the first n that are kept, unless one of them is equal to it: how many are kept then, or 17 where 16 are there.
-fn keep(
-    image: &[u8],
-    rows: &[u32],
-    constants: &[u32],
-    inner: &[u32],
-    codes: usize,
-    kept: &mut [u8],
-    n: usize,
-    e: Cell,
-) -> usize
+// An effect goes behind the first n that are kept, unless one of them is equal to it: how many are kept then, or `None`
+// where 16 are there.
+#[tactic(auto, using(crate::specs::Different::keeps_old, crate::specs::Different::keeps_many, crate::specs::Different::keeps_new))]
+fn keep(program: &lookups::Program, kept: &mut [u8], n: usize, e: Cell) -> Option<usize>
     requires { (n ≤ 16) × (16 ≤ room kept.old) }
-    ensures { Keeps (program_in image.now rows.now constants.now inner.now codes) e n kept.old result kept.new }
+    ensures { Keeps (program_of program.now) e n kept.old result kept.new }
 {
-    if among(image, rows, constants, inner, codes, kept, n, e) {
-        return n;
+    if among(program, kept, n, e) {
+        return Some(n);
     }
     if n == 16 {
-        return 17;
+        return None;
     }
     cells::put(kept, n, e);
-    n + 1
+    Some(n + 1)
 }
 
-// "A repeat in an answer's handlers is dropped": the different ones are kept, and counted up to 17.
-pub fn distinct(
-    image: &[u8],
-    rows: &[u32],
-    constants: &[u32],
-    inner: &[u32],
-    codes: usize,
-    handlers: &[u8],
-    kept: &mut [u8],
-) -> usize
+// "A repeat in an answer's handlers is dropped": the different ones are kept and counted; `None` says that there is a
+// seventeenth.
+pub fn distinct(program: &lookups::Program, handlers: &[u8], kept: &mut [u8]) -> Option<usize>
     requires { 16 ≤ room kept.old }
-    ensures { Distinct (program_in image.now rows.now constants.now inner.now codes) (cells handlers.now) result (cells kept.new) }
+    ensures { Distinct (program_of program.now) (cells handlers.now) result (cells kept.new) }
 {
     let all = cells::room(handlers);
     let mut count = 0;
-    let mut i = 0;
-    while i < all {
+    for i in 0..all {
         let e = cells::get(handlers, i);
-        count = keep(image, rows, constants, inner, codes, kept, count, e);
-        if count == 17 {
-            return 17;
-        }
-        i += 1;
+        count = keep(program, kept, count, e)?;
     }
-    count
+    Some(count)
 }
 
 // The word to keep is put in the frame of a host callback, which begins at `base`.
+#[tactic(auto, using(crate::specs::Frames::words))]
 pub fn set_word(live: &mut [u8], base: usize, word: u64)
     requires { base + 6 ≤ room live.old }
     ensures { Worded base word live.old live.new }
@@ -105,10 +71,8 @@ pub fn set_handlers(live: &mut [u8], base: usize, kept: &[u8], n: usize)
     ensures { Rehandled base n (cells kept.now) live.old live.new }
 {
     let mut g = moves::clear_handlers(live, moves::open(live, base));
-    let mut j = 0;
-    while j < n {
+    for j in 0..n {
         g = moves::add_handler(live, g, cells::get(kept, j), 0, 0);
-        j += 1;
     }
     moves::settle(live, g);
 }
@@ -125,25 +89,21 @@ pub fn lay(live: &[u8], work: &mut [u8], starts: &mut [u32], frames: usize, word
     end
 }
 
-// The different handlers of an answered call go into its frame, which begins at `base`.
+// The different handlers of an answered call go into its frame, which begins at `base`: where the frame ends then. 17 are
+// too many.
 pub fn put_handlers(
-    image: &[u8],
-    rows: &[u32],
-    constants: &[u32],
-    inner: &[u32],
-    codes: usize,
+    program: &lookups::Program,
     handlers: &[u8],
     work: &mut [u8],
     base: usize,
-) -> Put
+) -> Result<usize, Refusal>
     requires { Puttable base work.old }
-    ensures { PutsHandlers (program_in image.now rows.now constants.now inner.now codes) base (cells handlers.now) result work.old work.new }
+    ensures { PutsHandlers (program_of program.now) base (cells handlers.now) result work.old work.new }
 {
     let mut kept = [0u8; 256];
-    let n = distinct(image, rows, constants, inner, codes, handlers, &mut kept);
-    if n == 17 {
-        return Put::TooMany;
-    }
+    let Some(n) = distinct(program, handlers, &mut kept) else {
+        return Err(Refusal::ManyHandlers);
+    };
     set_handlers(work, base, &kept, n);
-    Put::End(moves::end(moves::open(work, base)))
+    Ok(moves::end(moves::open(work, base)))
 }

@@ -50,10 +50,7 @@ fn push_from(live: &mut [u8], g: Running, args: &[u8], n: usize) -> Running
 {
     blocks::copy(live, moves::end(g), args, 0, n);
     Running {
-        base: g.base,
-        locals: g.locals,
-        handlers: g.handlers,
         stack: g.stack + n,
-        place: g.place,
+        ..g
     }
 }

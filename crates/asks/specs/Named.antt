@@ -1,5 +1,5 @@
 -- A value that a call brings: whether it exists, and where the constant stands that it names.
-use Rattle.std.specs.Prelude.{◌≡◌, refl, List, [], Bool, true, false, not, ℕ, ◌+◌, ◌<◌, ◌≤◌, ◌*◌, length, get_or, take, eqb}
+use Rattle.std.specs.Prelude.{◌≡◌, refl, List, [], Bool, true, false, not, ℕ, ◌+◌, ◌<◌, ◌≤◌, ◌*◌, length, get_or, take, eqb, Result, Ok, Err}
 use Rattle.std.proofs.Math.Path.{sym, ap}
 use Rattle.std.proofs.Common.{◌∙◌, arith}
 use Rattle.std.proofs.Math.Decide.{dec_lt}
@@ -8,12 +8,14 @@ use Rattle.cells.specs.Cells.{cells, room}
 use Rattle.cells.specs.CellsLaws.{length_cells}
 use Rattle.cells.specs.declared.Cell.{Cell}
 use Rattle.cells.specs.Parts.{cells_lent}
-use Rattle.image.specs.Records.{if?}
+use Rattle.image.specs.Records.{if?, Answer, refused, accepted}
 use Rattle.image.specs.Program.{Code}
 use Rattle.image.specs.Fine.{no_constant}
 use Rattle.image.specs.Layout.{field, code_at}
 use Rattle.image.specs.declared.Constant.{Constant}
-use Rattle.layout.specs.declared.Read.{Read}
+use Rattle.layout.specs.declared.Sizes as tables
+use Rattle.refusals.specs.Refusals.{number}
+use Rattle.refusals.specs.declared.Refusal.{Refusal}
 use Rattle.layout.specs.Reads.{Low}
 use Rattle.reader.specs.Reads.{Fits}
 use Rattle.machine.specs.Values.{Program, constant_of}
@@ -24,9 +26,7 @@ use Rattle.scan.specs.Values.{code_in, constant_code, constant_fits}
 use Rattle.form.specs.Entry.{Entered, entry, store_of, view_of, Enters}
 use Rattle.asks.specs.Entries.{used_in, place_of, named_in, named_by}
 use Rattle.asks.specs.Ready.{Ready, ready, used_is}
-use Rattle.asks.specs.declared.Named.{Named}
-use Rattle.asks.specs.declared.Named.TheVariants.{NotEntered, Unknown, Known}
-use Rattle.layout.specs.declared.Read.TheVariants as read
+use Rattle.asks.specs.declared.Place.{Place}
 
 -- the store as far as it is used
 lent_room : (store : List ℕ) {l : List ℕ} → l ≡ take (16 * 65536) store → room l ≡ length (store_of store)
@@ -44,22 +44,22 @@ module _ (image rows constants inner : List ℕ) (codes : ℕ) (state store : Li
     tests : t ≡ value_fits P (store_of store) (used_in state) v
     tests = w ∙ ap (λ (x : List Cell). value_fits P x b v) (ap cells el ∙ cells_lent store 65536) ∙ ap (λ (n : ℕ). value_fits P (store_of store) n v) eb
 
-    pub named_unknown : not t ≡ true → Unknown ≡ named_in P state store v
+    pub named_unknown : not t ≡ true → refused 5 ≡ named_in P state store v
     unfolding named_in
-    named_unknown f = sym (ap (λ (c : Bool). if? c (place_of P v) Unknown) (sym tests ∙ not-true t f))
+    named_unknown f = sym (ap (λ (c : Bool). if? c (accepted (place_of P v)) (refused 5)) (sym tests ∙ not-true t f))
 
     module _ (f : not t ≡ false) where
       exists : value_fits P (store_of store) (used_in state) v ≡ true
       exists = sym tests ∙ not-false t f
 
-      at_place : named_in P state store v ≡ place_of P v
+      at_place : named_in P state store v ≡ accepted (place_of P v)
       unfolding named_in
-      at_place = ap (λ (c : Bool). if? c (place_of P v) Unknown) exists
+      at_place = ap (λ (c : Bool). if? c (accepted (place_of P v)) (refused 5)) exists
 
-      pub named_low : v.tag < 4 → Known 0 0 ≡ named_in P state store v
+      pub named_low : v.tag < 4 → accepted (record { start = 0; size = 0 }) ≡ named_in P state store v
       named_low h = sym (at_place ∙ rw (ne_eqb v.tag 4 (λ z. omega arith), ne_eqb v.tag 5 (λ z. omega arith)))
 
-      pub named_high : 6 ≤ v.tag → Known 0 0 ≡ named_in P state store v
+      pub named_high : 6 ≤ v.tag → accepted (record { start = 0; size = 0 }) ≡ named_in P state store v
       named_high h = sym (at_place ∙ rw (ne_eqb v.tag 4 (λ z. omega arith), ne_eqb v.tag 5 (λ z. omega arith)))
 
       str : v.tag ≡ 4 → is_constant P 20 v ≡ true
@@ -69,6 +69,9 @@ module _ (image rows constants inner : List ℕ) (codes : ℕ) (state store : Li
       bytes : v.tag ≡ 5 → is_constant P 21 v ≡ true
       unfolding value_fits
       bytes e = simp e at exists
+
+      abbrev spot_if : Bool → Place
+      spot_if t = if? t (record { start = (constant_of P v).place; size = (constant_of P v).size }) (record { start = 0; size = 0 })
 
       -- a Str or Bytes names a constant that is there
       module _ (low : 4 ≤ v.tag) (high : v.tag < 6) where
@@ -93,22 +96,22 @@ module _ (image rows constants inner : List ℕ) (codes : ℕ) (state store : Li
         pub named_there : v.payload < field rows v.number 7
         named_there = constant_fits image rows constants inner codes (16 + v.tag) v (sym names) refl
 
-        pub named_constant : {c : Constant} → c ≡ get_or (code_at image rows constants [] v.number).constants v.payload no_constant → Known c.place c.size ≡ named_in P state store v
+        pub named_constant : {c : Constant} → c ≡ get_or (code_at image rows constants [] v.number).constants v.payload no_constant → accepted (record { start = c.place; size = c.size }) ≡ named_in P state store v
         named_constant ec =
             let q = ec ∙ sym (ap (λ (x : Code). get_or x.constants v.payload no_constant) (code_in image rows constants inner codes v.number (constant_code image rows constants inner codes (16 + v.tag) v (sym names) refl))) in
-            ap (λ (x : Constant). Known x.place x.size) q
-            ∙ sym (at_place ∙ ap (λ (t : Bool). if? t (Known (constant_of P v).place (constant_of P v).size) (Known 0 0)) either)
+            ap (λ (x : Constant). accepted (record { start = x.place; size = x.size })) q
+            ∙ sym (at_place ∙ ap (λ (t : Bool). accepted (spot_if t)) either)
 
 -- ---- The entry of a call with a value
-module _ {image state live store : List ℕ} {o : Read} {rows constants inner : List ℕ} (w : Enters image state live store o rows constants inner) where
-  pub with_not : (v : Cell) {n : ℕ} → o ≡ read.Refused n → NotEntered n ≡ named_by state store v (entry image state live store)
+module _ {image state live store : List ℕ} {o : Result tables.Sizes Refusal} {rows constants inner : List ℕ} (w : Enters image state live store o rows constants inner) where
+  pub with_not : (v : Cell) {x : Refusal} → o ≡ Err x → refused (number x) ≡ named_by state store v (entry image state live store)
   with_not v e = ap (named_by state store v) (rw e at w.does)
 
-  module _ {c u k : ℕ} (e : o ≡ read.Accepted c u k) where
+  module _ {h : tables.Sizes} (e : o ≡ Ok h) where
     abbrev Q : Program
-    Q = program_in image (take (10 * c) rows) (take u constants) (take k inner) c
+    Q = program_in image (take (10 * h.codes) rows) (take h.constants constants) (take h.inner inner) h.codes
 
-    pub with_named : (v : Cell) {r : Named} → r ≡ named_in Q state store v → r ≡ named_by state store v (entry image state live store)
+    pub with_named : (v : Cell) {r : Answer Place} → r ≡ named_in Q state store v → r ≡ named_by state store v (entry image state live store)
     with_named v q = q ∙ ap (named_by state store v) (rw e at w.does)
 
     abbrev entered : Entered
@@ -123,8 +126,8 @@ module _ {image state live store : List ℕ} {o : Read} {rows constants inner : 
     pub with_used : used_in state ≤ length (store_of store)
     with_used = omega (arith, used_is with_ready, with_ready.fits.used)
 
-    low : Low c u k
+    low : Low h.codes h.constants h.inner
     low = rw e at w.low
 
-    pub with_fits : 2560 ≤ length rows → 10923 ≤ length constants → 256 ≤ length inner → Fits c u k rows constants inner
+    pub with_fits : 2560 ≤ length rows → 10923 ≤ length constants → 256 ≤ length inner → Fits h.codes h.constants h.inner rows constants inner
     with_fits a b d = record { codes = low.codes; rows = a; constants = omega (arith, low.used); inner = omega (arith, low.codes, low.kept) }

@@ -4,13 +4,13 @@
 ghost use Rattle.std.specs.Prelude.{◌≡◌, ◌*◌, ◌≤◌, length, take};
 ghost use Rattle.reader.specs.Reads.{Fits};
 ghost use Rattle.cells.specs.Cells.{null};
-ghost use Rattle.scan.specs.Tables.{program_in};
+ghost use Rattle.scan.specs.Tables.{program_of};
 ghost use Rattle.form.specs.Entry.{entry, store_of};
-ghost use Rattle.asks.specs.Asks.{cell_of, got_of};
-ghost use Rattle.asks.specs.Entries.{used_in, entry_of, named_in, named_by};
+ghost use Rattle.asks.specs.Asks.{cell_of};
+ghost use Rattle.asks.specs.Entries.{used_in, says, got_said, entry_of, named_in, named_by};
 
 use cells::Cell;
-use layout::Read;
+use refusals::Refusal;
 
 // A code and a value.
 #[repr(C)]
@@ -31,19 +31,11 @@ pub struct Part {
     pub len: u64,
 }
 
-// What the entry of a call comes to: a refusal, or memory in form.
+// A part of an image or of a page of messages.
 #[derive(Clone, Copy)]
-pub enum Entry {
-    Refused(u32),
-    InForm,
-}
-
-// What the entry of a call with a value comes to: place and size of the Str or Bytes that it names, 0 if it names none.
-#[derive(Clone, Copy)]
-pub enum Named {
-    NotEntered(u32),
-    Unknown,
-    Known(usize, usize),
+pub struct Place {
+    pub start: usize,
+    pub size: usize,
 }
 
 // A value of two numbers.
@@ -57,11 +49,16 @@ pub fn cell_of(low: u64, high: u64) -> Cell
     }
 }
 
-pub fn answered(code: u32, v: Cell) -> Got
-    ensures { result ≡ got_of code v }
+// A value that was found, or null and why there is none.
+pub fn answered(found: Result<Cell, Refusal>) -> Got
+    ensures { result ≡ got_said (says found) }
 {
-    let tag = v.tag as u64;
-    let number = v.number as u64;
+    let (code, v) = match found {
+        Ok(v) => (0, v),
+        Err(refusal) => (refusal.number(), null()),
+    };
+    let tag = u64::from(v.tag);
+    let number = u64::from(v.number);
     Got {
         code,
         low: tag + 4294967296 * number,
@@ -79,14 +76,14 @@ pub fn null() -> Cell
     }
 }
 
-// What the entry of a call comes to.
-pub fn entered(image: &[u8], state: &[u8], live: &[u8], store: &[u8]) -> Entry
-    ensures { result ≡ entry_of (entry image.now state.now live.now store.now) }
+// The entry of a call: memory is in form, or why not.
+pub fn entered(image: &[u8], state: &[u8], live: &[u8], store: &[u8]) -> Result<(), Refusal>
+    ensures { says result ≡ entry_of (entry image.now state.now live.now store.now) }
 {
     let mut rows = [0u32; 2560];
     let mut constants = [0u32; 10923];
     let mut inner = [0u32; 256];
-    match form::enter(
+    form::enter(
         image,
         state,
         live,
@@ -94,66 +91,52 @@ pub fn entered(image: &[u8], state: &[u8], live: &[u8], store: &[u8]) -> Entry
         &mut rows,
         &mut constants,
         &mut inner,
-    ) {
-        Read::Refused(n) => Entry::Refused(n),
-        Read::Accepted(_, _, _) => Entry::InForm,
-    }
+    )
+    .map(|_| ())
 }
 
-// Does a value exist, and where does the constant stand that it names? Only the front of each table is filled.
+// Where the Str or Bytes stands that a value names, an empty place if it names none; or the value does not exist.
 fn named_in(
-    image: &[u8],
-    rows: &[u32],
-    constants: &[u32],
-    inner: &[u32],
-    codes: usize,
-    used: usize,
-    kept: usize,
+    program: &lookups::Program,
     state: &[u8],
     store: &[u8],
     v: Cell,
-) -> Named
-    requires { Fits codes used kept rows.now constants.now inner.now × (length state.now ≡ 8256) × (used_in state.now ≤ length (store_of store.now)) }
-    ensures { result ≡ named_in (program_in image.now (take (10 * codes) rows.now) (take used constants.now) (take kept inner.now) codes) state.now store.now v }
+) -> Result<Place, Refusal>
+    requires { (length state.now ≡ 8256) × (used_in state.now ≤ length (store_of store.now)) }
+    ensures { says result ≡ named_in (program_of program.now) state.now store.now v }
 {
-    let end = 10 * codes;
     let below = cells::payload(state, 0) as usize;
-    if !scan::value_fits(
-        image,
-        &rows[..end],
-        &constants[..used],
-        &inner[..kept],
-        codes,
-        form::lent(store, 65536),
-        below,
-        v,
-    ) {
-        return Named::Unknown;
+    if !scan::value_fits(program, form::lent(store, 65536), below, v) {
+        return Err(Refusal::BadValue);
     }
     let tag = v.tag;
     match tag {
         4 | 5 => {
-            let c = lookups::constant(
-                image,
-                &rows[..end],
-                &constants[..used],
-                v.number as usize,
-                v.payload as usize,
-            );
-            Named::Known(c.place, c.size)
+            let c = program.constant(v.number as usize, v.payload as usize);
+            Ok(Place {
+                start: c.place,
+                size: c.size,
+            })
         }
-        _ => Named::Known(0, 0),
+        _ => Ok(Place { start: 0, size: 0 }),
     }
 }
 
-// The entry of a call that brings a value.
-pub fn entered_with(image: &[u8], state: &[u8], live: &[u8], store: &[u8], v: Cell) -> Named
-    ensures { result ≡ named_by state.now store.now v (entry image.now state.now live.now store.now) }
+// The entry of a call that brings a value: where the constant stands that it names.
+#[tactic(auto, using(crate::specs::Named::with_fits, crate::specs::Named::with_size, crate::specs::Named::with_used, crate::specs::Named::with_not, crate::specs::Named::with_named))]
+pub fn entered_with(
+    image: &[u8],
+    state: &[u8],
+    live: &[u8],
+    store: &[u8],
+    v: Cell,
+) -> Result<Place, Refusal>
+    ensures { says result ≡ named_by state.now store.now v (entry image.now state.now live.now store.now) }
 {
     let mut rows = [0u32; 2560];
     let mut constants = [0u32; 10923];
     let mut inner = [0u32; 256];
-    match form::enter(
+    let sizes = form::enter(
         image,
         state,
         live,
@@ -161,10 +144,7 @@ pub fn entered_with(image: &[u8], state: &[u8], live: &[u8], store: &[u8], v: Ce
         &mut rows,
         &mut constants,
         &mut inner,
-    ) {
-        Read::Refused(n) => Named::NotEntered(n),
-        Read::Accepted(codes, used, kept) => named_in(
-            image, &rows, &constants, &inner, codes, used, kept, state, store, v,
-        ),
-    }
+    )?;
+    let program = form::filled(image, &rows, &constants, &inner, sizes);
+    named_in(&program, state, store, v)
 }

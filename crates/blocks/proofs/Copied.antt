@@ -1,11 +1,11 @@
--- What the loops of copy, lower, raise and fill keep, and the laws of a turn. Assumes nothing.
-use mathlib.Core.Path.{◌≡◌, refl, sym, ap, ◌∙◌}
+-- What the loops of lower, raise and fill keep, and the laws of a turn. Assumes nothing.
+use mathlib.Core.Path.{◌≡◌, sym, ap, ◌∙◌}
 use mathlib.Core.List.{List, ◌++◌}
 use Prim.Native.Nat.{ℕ, suc, ◌+◌, ◌-◌, ◌<◌, ◌≤◌}
-use native.Mathlib.Numerals.{add-one}
 use native.Mathlib.Omega.{arith}
 use lib.ListN.{length, get_or, set, take, drop, replicate, length-drop, length-append, length-replicate, get_or-replicate}
-use lib.Seq.{paste, paste-zero, paste-suc, get_or-drop, length-take-le, set-append_left, take-set-lt, take-suc-set, append_snoc, drop-cons}
+use lib.Seq.{paste, get_or-drop, length-take-le, set-append_left, take-set-lt, take-suc-set, append_snoc, drop-cons}
+use Rattle.std.proofs.lemmas.List.Edits.{paste_more}
 use Rattle.cells.specs.Cells.{null, room, cells, Writes}
 use Rattle.cells.specs.CellsLaws.{length_cells, writes_two}
 use Rattle.cells.specs.Moves.{paste_below, paste_above}
@@ -29,20 +29,13 @@ paste_front d a x b m h l =
 pub record Copied (d₀ : List ℕ) (to : ℕ) (x : List Cell) (n : ℕ) (d : List ℕ) : Type 0 where
   pub is : Writes d₀ (paste (cells d₀) to x n) d
 
-pub copied_none : (d : List ℕ) (to : ℕ) (x : List Cell) → Copied d to x 0 d
-copied_none d to x = record { is = record { cells = paste-zero (cells d) to x; rest = refl; len = refl } }
-
--- at the end of a loop
-pub copied_all : {d₀ d : List ℕ} {to j : ℕ} {x : List Cell} (n : ℕ) → j ≡ n → Copied d₀ to x j d → Writes d₀ (paste (cells d₀) to x n) d
-copied_all n e i = rw e at i.is
-
 module _ {d₀ d d' : List ℕ} {to j : ℕ} (v : Cell) where
   -- one more is written behind those that are there
   pub copied_more : {x : List Cell} → to + j < room d₀ → j < length x → v ≡ get_or x j null
       → Copied d₀ to x j d → Writes d (set (cells d) (to + j) v) d' → Copied d₀ to x (j + 1) d'
   copied_more {x} h l e i w =
       let t : set (paste (cells d₀) to x j) (to + j) v ≡ paste (cells d₀) to x (j + 1) =
-      rw (e, add-one) (paste-suc (cells d₀) to x j null (rw length_cells h) l) in
+      rw e (paste_more (cells d₀) to x j null (rw length_cells h) l) in
       record { is = rw t at (writes_two (λ (y : List Cell). set y (to + j) v) i.is w) }
 
   -- of one cell
@@ -64,19 +57,7 @@ module _ {d₀ d d' : List ℕ} {to j : ℕ} (v : Cell) where
       rw i.is.cells (paste_above (cells d₀) to (drop from (cells d₀)) j (from + j) (omega arith) (simp length-drop (omega arith)) (omega arith)) in
       copied_from d₀ from (omega arith) h (e ∙ k) i w
 
--- ---- the last cell first: those from j on stand already
-pub raised_none : (s : List ℕ) (to from n : ℕ) → Copied s (to + n) (drop (from + n) (cells s)) (n - n) s
-raised_none s to from n = let e : n - n ≡ 0 = omega arith in rw e (copied_none s _ _)
-
-pub raised_all : {d₀ d : List ℕ} (to from n j : ℕ) → j ≡ 0 → Copied d₀ (to + j) (drop (from + j) (cells d₀)) (n - j) d
-    → Writes d₀ (paste (cells d₀) to (drop from (cells d₀)) n) d
-raised_all to from n j e i =
-    let a : to + j ≡ to = omega arith in
-    let b : from + j ≡ from = omega arith in
-    let m : n - j ≡ n = omega arith in
-    rw (a, b, m) at i.is
-
--- one more is written before those that are there, of the slice itself, from below
+-- the last cell first, those from j on stand already: one more is written before them, of the slice itself, from below
 pub raised_more : {d₀ d d' : List ℕ} {v : Cell} (to from n k j : ℕ) → j ≡ k + 1 → j ≤ n → from ≤ to → to + n ≤ room d₀
     → v ≡ get_or (cells d) (from + k) null
     → Copied d₀ (to + j) (drop (from + j) (cells d₀)) (n - j) d → Writes d (set (cells d) (to + k) v) d'

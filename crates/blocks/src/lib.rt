@@ -12,35 +12,28 @@ pub fn copy(to: &mut [u8], at: usize, from: &[u8], start: usize, n: usize)
     requires { (at + n ≤ room to.old) × (start + n ≤ room from.now) }
     ensures { Writes to.old (paste (cells to.old) at (drop start (cells from.now)) n) to.new }
 {
-    let mut copied = 0;
-    while copied < n {
-        let c = cells::get(from, start + copied);
-        cells::put(to, at + copied, c);
-        copied += 1;
-    }
+    to[16 * at..16 * (at + n)].copy_from_slice(&from[16 * start..16 * (start + n)]);
 }
 
 // n cells go down within one slice: the first goes first, so that none is overwritten before it is read.
+#[tactic(auto, using(crate::proofs::Copied::copied_lower))]
 pub fn lower(s: &mut [u8], to: usize, from: usize, n: usize)
     requires { (to ≤ from) × (from + n ≤ room s.old) }
     ensures { Writes s.old (paste (cells s.old) to (drop from (cells s.old)) n) s.new }
 {
-    let mut moved = 0;
-    while moved < n {
+    for moved in 0..n {
         let c = cells::get(s, from + moved);
         cells::put(s, to + moved, c);
-        moved += 1;
     }
 }
 
 // n cells go up within one slice: the last goes first.
+#[tactic(auto, using(crate::proofs::Copied::raised_more))]
 pub fn raise(s: &mut [u8], to: usize, from: usize, n: usize)
     requires { (from ≤ to) × (to + n ≤ room s.old) }
     ensures { Writes s.old (paste (cells s.old) to (drop from (cells s.old)) n) s.new }
 {
-    let mut left = n;
-    while 0 < left {
-        left -= 1;
+    for left in (0..n).rev() {
         let c = cells::get(s, from + left);
         cells::put(s, to + left, c);
     }
@@ -59,13 +52,12 @@ pub fn copy_within(s: &mut [u8], to: usize, from: usize, n: usize)
 }
 
 // The n cells at `at` become c.
+#[tactic(auto, using(crate::proofs::Copied::copied_same))]
 pub fn fill(s: &mut [u8], at: usize, n: usize, c: Cell)
     requires { at + n ≤ room s.old }
     ensures { Writes s.old (paste (cells s.old) at (replicate n c) n) s.new }
 {
-    let mut filled = 0;
-    while filled < n {
+    for filled in 0..n {
         cells::put(s, at + filled, c);
-        filled += 1;
     }
 }

@@ -1,7 +1,7 @@
 -- An answer as it was sent: out of turn, no answer, unfit, or replied to; one law for each return.
-use Rattle.std.specs.Prelude.{◌≡◌, refl, List, [], ◌∷◌, ◌++◌, Bool, true, false, not, ℕ, ◌+◌, ◌<◌, ◌≤◌, length, eqb, leb}
+use Rattle.std.specs.Prelude.{◌≡◌, refl, List, [], ◌∷◌, ◌++◌, Bool, true, false, not, ℕ, ◌+◌, ◌≤◌, length, eqb, Result, Ok, Err}
 use Rattle.std.proofs.Math.Path.{sym, ap}
-use Rattle.std.proofs.Common.{subst, ◌∙◌, arith, length-append, leb-true}
+use Rattle.std.proofs.Common.{subst, ◌∙◌, arith, leb-true}
 use Rattle.std.proofs.lemmas.Bool.{not-true, not-false}
 use Rattle.cells.specs.Cells.{room, cells}
 use Rattle.cells.specs.declared.Cell.{Cell}
@@ -20,8 +20,8 @@ use Rattle.requests.specs.AskedLaws.{sent_refused}
 use Rattle.replies.specs.Replied.{return_with, asks_for, ReturnFits}
 use Rattle.replies.specs.declared.CallbackReturn.{CallbackReturn}
 use Rattle.replies.specs.declared.CallbackReturn.TheVariants.{Call, Perform, TailCall, TailPerform, ReturnValue, Error, Panic}
-use Rattle.replies.specs.declared.Reply.{Reply}
-use Rattle.replies.specs.declared.Reply.TheVariants.{Malformed, Returns}
+use Rattle.refusals.specs.Refusals.{number}
+use Rattle.refusals.specs.declared.Refusal.{Refusal}
 use Rattle.callbacks.specs.Outcomes.{awaited, replied, reply_unfit}
 use Rattle.callbacks.specs.Replies.{Replyable, RepliesWorld}
 
@@ -103,12 +103,12 @@ module _ {P : Program} (kind word : ℕ) (v : Cell) (args handlers : List ℕ) {
           ap (λ (y : Answer machine.CallbackReturn). asking P (rooms_of live store) w (answer_with word no_fuel y)) e
           ∙ sym (ap (λ (b : Bool). if? b (asking P (rooms_of live store) w (answer_with word no_fuel (return_of kind v args handlers))) (stops 11)) (waiting w h))
 
-      module _ {reply : Reply} (a : asks_for reply args handlers ≡ return_of kind v args handlers) where
-        pub answer_malformed : reply ≡ Malformed → SentWorld P (answering kind word v args handlers) 5 state live store state live store
+      module _ {reply : Result CallbackReturn Refusal} (a : asks_for reply args handlers ≡ return_of kind v args handlers) where
+        pub answer_malformed : {x : Refusal} → reply ≡ Err x → SentWorld P (answering kind word v args handlers) (number x) state live store state live store
         unfolding asking answer_with
-        answer_malformed e = sent_refused (λ w h. sym (asked_is (refused 5) (rw e at a) w h))
+        answer_malformed {x} e = sent_refused (λ w h. sym (asked_is (refused (number x)) (rw e at a) w h))
 
-        module _ {r : CallbackReturn} (e : reply ≡ Returns r) where
+        module _ {r : CallbackReturn} (e : reply ≡ Ok r) where
           replied_to : (w : World) → Holding P w state live store → replied P (rooms_of live store) word (return_with r (cells args) (cells handlers)) w ≡ sent_outcome P (rooms_of live store) (answering kind word v args handlers) w
           unfolding asking answer_with
           replied_to = asked_is (accepted (return_with r (cells args) (cells handlers))) (rw e at a)

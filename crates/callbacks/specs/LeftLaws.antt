@@ -1,7 +1,6 @@
 -- The frames left of an answer, one law for each return.
-use Rattle.std.specs.Prelude.{◌≡◌, refl, List, [], ◌∷◌, ◌++◌, ℕ, ◌+◌, ◌-◌, ◌<◌, ◌≤◌, length}
-use Rattle.std.proofs.Common.{sym, ap, subst, ◌∙◌, append_assoc, arith}
-use Rattle.cells.specs.Cells.{cells}
+use Rattle.std.specs.Prelude.{◌≡◌, refl, ◌⊎◌, List, [], ◌∷◌, ◌++◌, ℕ, ◌-◌, ◌<◌, length, Result, Ok, Err}
+use Rattle.std.proofs.Common.{ap, ◌∙◌, append_assoc, arith, inl, inr}
 use Rattle.cells.specs.declared.Cell.{Cell}
 use Rattle.machine.specs.Values.{Program}
 use Rattle.machine.specs.Machine.{Frame, host}
@@ -14,8 +13,8 @@ use Rattle.plan.specs.declared.Counts.{Counts}
 use Rattle.actions.specs.Tables.{lower_onto}
 use Rattle.requests.specs.Returned.{frames_left}
 use Rattle.answers.specs.Answered.{Laid, PutsDistinct, PutsHandlers}
-use Rattle.answers.specs.declared.Put.{Put}
-use Rattle.answers.specs.declared.Put.TheVariants.{TooMany, End}
+use Rattle.refusals.specs.declared.Refusal.{Refusal}
+use Rattle.refusals.specs.declared.Refusal.TheVariants.{ManyHandlers}
 use Rattle.replies.specs.Replied.{return_with}
 use Rattle.replies.specs.declared.CallbackReturn.{CallbackReturn}
 use Rattle.replies.specs.declared.CallbackReturn.TheVariants.{Call, Perform, TailCall, TailPerform, ReturnValue, Error, Panic}
@@ -47,13 +46,13 @@ Stays P handlers r = (args : List Cell) (self : List Cell → Frame) (hs : List 
 
 module _ (P : Program) (handlers : List Cell) (base : ℕ) (c : Counts) (work : List ℕ) (r : CallbackReturn) where
   -- an answered call: what putting in its handlers came to
-  module _ {f : Cell} (e : r ≡ Call f) (put : Put) (work' : List ℕ) (p : PutsHandlers P base handlers put work work') where
-    pub left_many : put ≡ TooMany → Many P r handlers
-    left_many q =
-        let m : (16 < length (distinct P (length handlers) handlers)) × Same work work' = rw q at p in
-        record { function = f; is = e; many = m.0 }
+  module _ {f : Cell} (e : r ≡ Call f) (put : Result ℕ Refusal) (work' : List ℕ) (p : PutsHandlers P base handlers put work work') where
+    pub left_many : {x : Refusal} → put ≡ Err x → (x ≡ ManyHandlers) × Many P r handlers
+    left_many {x} q =
+        let m : (x ≡ ManyHandlers) × (16 < length (distinct P (length handlers) handlers)) × Same work work' = rw q at p in
+        (m.0, record { function = f; is = e; many = m.1 })
 
-    pub left_call : {end : ℕ} → put ≡ End end → LeavesFrames P r handlers base c (record { frames = c.frames; live = end; store = c.store }) work work'
+    pub left_call : {end : ℕ} → put ≡ Ok end → LeavesFrames P r handlers base c (record { frames = c.frames; live = end; store = c.store }) work work'
     unfolding frames_left
     left_call {end} q =
         let m : PutsDistinct base (distinct P (length handlers) handlers) end work work' = rw q at p in
@@ -80,26 +79,15 @@ module _ (P : Program) (handlers : List Cell) (base : ℕ) (c : Counts) (work : 
     same = same work;
   }
 
-  pub left_tail_call : {f : Cell} → r ≡ TailCall f → 0 < c.frames → LeavesFrames P r handlers base c (tail_counts base c) work work
+  pub left_gone : ((x : Cell) × (r ≡ TailCall x)) ⊎ (((x : Cell) × (r ≡ TailPerform x)) ⊎ ((x : Cell) × (r ≡ ReturnValue x))) → 0 < c.frames
+      → LeavesFrames P r handlers base c (tail_counts base c) work work
   unfolding frames_left
-  left_tail_call e = left_goes (rw e tt) (rw e (λ args self hs below. refl))
+  left_gone (inl e) = left_goes (rw e.1 tt) (rw e.1 (λ args self hs below. refl))
+  left_gone (inr (inl e)) = left_goes (rw e.1 tt) (rw e.1 (λ args self hs below. refl))
+  left_gone (inr (inr e)) = left_goes (rw e.1 tt) (rw e.1 (λ args self hs below. refl))
 
-  pub left_tail_perform : {f : Cell} → r ≡ TailPerform f → 0 < c.frames → LeavesFrames P r handlers base c (tail_counts base c) work work
+  pub left_there : ((x : Cell) × (r ≡ Perform x)) ⊎ (((x : Cell) × (r ≡ Error x)) ⊎ ((x : Cell) × (r ≡ Panic x))) → LeavesFrames P r handlers base c c work work
   unfolding frames_left
-  left_tail_perform e = left_goes (rw e tt) (rw e (λ args self hs below. refl))
-
-  pub left_return : {f : Cell} → r ≡ ReturnValue f → 0 < c.frames → LeavesFrames P r handlers base c (tail_counts base c) work work
-  unfolding frames_left
-  left_return e = left_goes (rw e tt) (rw e (λ args self hs below. refl))
-
-  pub left_perform : {f : Cell} → r ≡ Perform f → LeavesFrames P r handlers base c c work work
-  unfolding frames_left
-  left_perform e = left_stays (rw e tt) (rw e (λ args self hs below. refl))
-
-  pub left_error : {f : Cell} → r ≡ Error f → LeavesFrames P r handlers base c c work work
-  unfolding frames_left
-  left_error e = left_stays (rw e tt) (rw e (λ args self hs below. refl))
-
-  pub left_panic : {f : Cell} → r ≡ Panic f → LeavesFrames P r handlers base c c work work
-  unfolding frames_left
-  left_panic e = left_stays (rw e tt) (rw e (λ args self hs below. refl))
+  left_there (inl e) = left_stays (rw e.1 tt) (rw e.1 (λ args self hs below. refl))
+  left_there (inr (inl e)) = left_stays (rw e.1 tt) (rw e.1 (λ args self hs below. refl))
+  left_there (inr (inr e)) = left_stays (rw e.1 tt) (rw e.1 (λ args self hs below. refl))

@@ -1,5 +1,5 @@
 -- What an answer comes to in a world that awaits one, by the machine's definition: refusal 5, then 16, then what is left is judged.
-use Rattle.std.specs.Prelude.{◌≡◌, Bool, ℕ, ◌<◌, ◌≤◌, length, eqb, ltb}
+use Rattle.std.specs.Prelude.{◌≡◌, Bool, ℕ, ◌<◌, ◌≤◌, eqb}
 use Rattle.std.proofs.Math.Path.{refl, ap}
 use Rattle.std.proofs.Common.{sym, subst, ◌∙◌, lt-ltb}
 use mathlib.Core.List.{List, [], ◌∷◌}
@@ -9,7 +9,7 @@ use Rattle.cells.specs.declared.Cell.{Cell}
 use Rattle.image.specs.Records.{if?}
 use Rattle.image.proofs.Parts.{clash}
 use Rattle.machine.specs.Values.{Program, lucia_error, lucia_panic}
-use Rattle.machine.specs.Machine.{Frame, lucia, host, effect_callback, Object, Result, running, returned, failed, unhandled, M, with_frames, handlers_of}
+use Rattle.machine.specs.Machine.{Frame, lucia, host, effect_callback, Object, Result, running, returned, failed, unhandled, M, with_frames}
 use Rattle.machine.specs.Opcodes.{Action, calls, performs, throws, returns, doing, Taken, refuses}
 use Rattle.machine.specs.Calls.{Sizes, top_handlers, handlers_left, Outcome, does, stops, judge, outcome, World, no_fuel, CallbackReturn, call_with, perform, tail_call, tail_perform, return_it, error_with, panic_with, answer, fit, answer_action, answered, request_action}
 use Rattle.machine.specs.Form.{WorldFits, top_of, TurnFits}

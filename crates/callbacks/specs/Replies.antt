@@ -1,5 +1,5 @@
 -- An answer once its call is entered: the frames left, and what memory holds then.
-use Rattle.std.specs.Prelude.{◌≡◌, List, ◌∷◌, true, ℕ, ◌<◌, ◌≤◌, length}
+use Rattle.std.specs.Prelude.{◌≡◌, List, ◌∷◌, true, ℕ, ◌<◌, ◌≤◌, length, Result, Ok, Err}
 use Rattle.cells.specs.Cells.{cells}
 use Rattle.cells.specs.declared.Cell.{Cell}
 use Rattle.machine.specs.Values.{Program}
@@ -16,8 +16,8 @@ use Rattle.replies.specs.Replied.{return_with}
 use Rattle.replies.specs.declared.CallbackReturn.{CallbackReturn}
 use Rattle.replies.specs.declared.CallbackReturn.TheVariants.{Call, Perform, TailCall, TailPerform, ReturnValue, Error, Panic}
 use Rattle.callbacks.specs.Outcomes.{replied}
-use Rattle.callbacks.specs.declared.Left.{Left}
-use Rattle.callbacks.specs.declared.Left.TheVariants.{TooMany, Frames}
+use Rattle.refusals.specs.declared.Refusal.{Refusal}
+use Rattle.refusals.specs.declared.Refusal.TheVariants.{ManyHandlers}
 
 -- ---- The frames left
 -- the frames lie in the copy, a host callback's on top, which begins at `base`
@@ -50,9 +50,9 @@ pub record LeavesFrames (P : Program) (r : CallbackReturn) (handlers : List Cell
   pub store : l.store ≡ c.store
   pub same : Same work work'
 
-abbrev pub LeftBy : Program → CallbackReturn → List Cell → ℕ → Counts → Left → List ℕ → List ℕ → Type 0
-LeftBy P r handlers base c TooMany work work' = Many P r handlers
-LeftBy P r handlers base c (Frames l) work work' = LeavesFrames P r handlers base c l work work'
+abbrev pub LeftBy : Program → CallbackReturn → List Cell → ℕ → Counts → Result Counts Refusal → List ℕ → List ℕ → Type 0
+LeftBy P r handlers base c (Err x) work work' = (x ≡ ManyHandlers) × Many P r handlers
+LeftBy P r handlers base c (Ok l) work work' = LeavesFrames P r handlers base c l work work'
 
 -- ---- An answer that passed its tests
 pub record Replyable (P : Program) (r : CallbackReturn) (args handlers state live store : List ℕ) : Type 0 where

@@ -1,8 +1,9 @@
 -- An answer that passed its tests: from memory that awaits it to what it leaves, one law for each need and return.
-use Rattle.std.specs.Prelude.{◌≡◌, Bool, true, false, ℕ, ◌+◌, ◌-◌, ◌<◌, ◌≤◌, length, get_or, take, drop, eqb}
+use Rattle.std.specs.Prelude.{◌≡◌, Bool, true, false, ℕ, ◌+◌, ◌-◌, ◌<◌, ◌≤◌, length, get_or, take, drop, eqb, Ok, Err}
+use Rattle.std.specs.Prelude as std
 use Rattle.std.proofs.Math.Path.{refl, ap, subst}
-use Rattle.std.proofs.Common.{sym, ◌∙◌, arith, length-append, take_at, zero-add, eq-eqb, ne_eqb}
-use mathlib.Core.List.{List, [], ◌∷◌, ◌++◌, append_assoc}
+use Rattle.std.proofs.Common.{sym, ◌∙◌, arith, length-append, take_at, zero-add, ne_eqb}
+use mathlib.Core.List.{List, [], ◌∷◌, ◌++◌}
 use Rattle.std.proofs.Math.Seq.{paste}
 use Rattle.cells.specs.Moves.{paste_is}
 use Rattle.cells.specs.Cells.{room, cells, Writes}
@@ -19,25 +20,24 @@ use Rattle.memory.specs.Layout.{flat, result_shown, state_cells, live_cells, Hol
 use Rattle.memory.proofs.Lists.{length_flat}
 use Rattle.moves.specs.Frames.{Live}
 use Rattle.moves.specs.Objects.{Stored}
-use Rattle.plan.specs.Rest.{Same, counts_of, Held, Rests}
+use Rattle.plan.specs.Rest.{counts_of, Held, Rests}
 use Rattle.plan.specs.Plans.{Carries}
 use Rattle.plan.specs.declared.Counts.{Counts}
 use Rattle.plan.specs.declared.Plan.{Plan}
-use Rattle.counts.specs.Counted.{refusal_by}
 use Rattle.actions.specs.Tables.{lower_onto, lower_all}
-use Rattle.requests.specs.Returned.{return_fits, frames_left}
-use Rattle.requests.specs.Asked.{rooms_of, Holding, Finishable, FinishLeaves, Finishes, Leaves}
-use Rattle.requests.specs.FinishLaws.{granted}
-use Rattle.requests.specs.AskedLaws.{block_of, live_of, args_cost}
-use Rattle.requests.specs.declared.Finished.{Finished}
-use Rattle.answers.specs.Answered.{HostFrame, Laid, Layable, Lays, Puttable}
+use Rattle.requests.specs.Returned.{frames_left}
+use Rattle.requests.specs.Asked.{rooms_of, Holding, Finishable, FinishLeaves, Finishes, Leaves, finish_number}
+use Rattle.requests.specs.FinishLaws.{granted, some}
+use Rattle.requests.specs.AskedLaws.{live_of, args_cost}
+use Rattle.refusals.specs.Refusals.{number}
+use Rattle.refusals.specs.declared.Refusal.{Refusal}
+use Rattle.refusals.specs.declared.Refusal.TheVariants.{ManyHandlers}
+use Rattle.answers.specs.Answered.{Laid, Layable, Lays}
 use Rattle.replies.specs.Replied.{return_with, Plannable, PlansReturn}
 use Rattle.replies.specs.declared.CallbackReturn.{CallbackReturn}
 use Rattle.replies.specs.declared.CallbackReturn.TheVariants.{Call, Perform, TailCall, TailPerform, ReturnValue, Error, Panic}
 use Rattle.callbacks.specs.Outcomes.{action_of, Awaits, awaited, replied, left_of, done_by, machine_left, machine_done, reply_fits, reply_many}
 use Rattle.callbacks.specs.Replies.{Leavable, Few, Many, LeavesFrames, LeftBy, Replyable, RepliesWorld}
-use Rattle.callbacks.specs.declared.Left.{Left}
-use Rattle.callbacks.specs.declared.Left.TheVariants.{TooMany, Frames}
 use Rattle.callbacks.specs.LeftLaws.{live_below}
 
 -- the first cells of another slice in the place of the first ones
@@ -160,10 +160,9 @@ module _ {P : Program} {r : CallbackReturn} {args handlers state live store : Li
         counts = record { frames = frames; live = end; store = u }
 
         -- 17 different handlers
-        pub reply_too_many : (put : Left) (left : List ℕ) → LeftBy P r (cells handlers) base counts put work left → put ≡ TooMany → RepliesWorld P word (return_with r (cells args) (cells handlers)) 16 state live store state live store
+        too_many : Many P r (cells handlers) → RepliesWorld P word (return_with r (cells args) (cells handlers)) (number ManyHandlers) state live store state live store
         unfolding handlers_left action_of top_handlers frames_left handlers_of
-        reply_too_many put left o t =
-            let m : Many P r (cells handlers) = rw t at o in
+        too_many m =
             record {
               leaves = λ w h.
                   let fits = p.passes w h in
@@ -176,8 +175,14 @@ module _ {P : Program} {r : CallbackReturn} {args handlers state live store : Li
               same_store = record { rest = refl; len = refl };
             }
 
+        pub reply_too_many : (put : std.Result Counts Refusal) (left : List ℕ) {x : Refusal} → LeftBy P r (cells handlers) base counts put work left → put ≡ Err x
+            → RepliesWorld P word (return_with r (cells args) (cells handlers)) (number x) state live store state live store
+        reply_too_many put left {x} o t =
+            let m : (x ≡ ManyHandlers) × Many P r (cells handlers) = rw t at o in
+            rw m.0 (too_many m.1)
+
         -- the frames left are l, in the copy
-        module _ (put : Left) {l : Counts} (left : List ℕ) (leaves : LeftBy P r (cells handlers) base counts put work left) (put_is : put ≡ Frames l) where
+        module _ (put : std.Result Counts Refusal) {l : Counts} (left : List ℕ) (leaves : LeftBy P r (cells handlers) base counts put work left) (put_is : put ≡ Ok l) where
           k : LeavesFrames P r (cells handlers) base counts l work left
           k = rw put_is at leaves
 
@@ -265,54 +270,62 @@ module _ {P : Program} {r : CallbackReturn} {args handlers state live store : Li
                   block = p.entered.block;
                 }
 
-            module _ {most : ℕ} (e : most ≡ room live) {done : Finished} {state' copy store' : List ℕ} (o : Finishes plan (cells args) l most done state left store starts state' copy store') where
+            module _ {most : ℕ} (e : most ≡ room live) {done : std.Result ℕ Refusal} {state' copy store' : List ℕ} (o : Finishes plan (cells args) l most done state left store starts state' copy store') where
               finished : (w : World) (h : Holding P w state live store) → FinishLeaves (rooms_of live store) (machine_done P word (ret w h) (awaits w h)) done state' copy store'
               finished w h =
                   subst (λ (n : ℕ). FinishLeaves (record { live = n; store = room store }) (machine_done P word (ret w h) (awaits w h)) done state' copy store') e
                   (o.leaves P (M₀ w h) (machine_done P word (ret w h) (awaits w h)) (carries w h) (rests w h) (held w h))
 
               replied_is : (w : World) (h : Holding P w state live store)
-                  → replied P (rooms_of live store) word (ret w h) w ≡ if? (eqb done.refusal 0) (does (done_by P word (ret w h) (awaits w h)) (machine_done P word (ret w h) (awaits w h))) (stops done.refusal)
+                  → replied P (rooms_of live store) word (ret w h) w ≡ if? (eqb (finish_number done) 0) (does (done_by P word (ret w h) (awaits w h)) (machine_done P word (ret w h) (awaits w h))) (stops (finish_number done))
               replied_is w h =
                   let few = few_top P w.machine.store (awaits w h).number (awaits w h).word word (awaits w h).stack (awaits w h).handlers (awaits w h).below (cells args) (cells handlers) r (subst (All (FrameFits P w.machine.store)) (awaits w h).frames h.fits.frames) k.few in
                   reply_fits P word (ret w h) (awaits w h) (p.passes w h).0 (rooms_of live store) (p.passes w h).1 few
                   ∙ ap (λ (n : ℕ). if? (eqb n 0) (does (done_by P word (ret w h) (awaits w h)) (machine_done P word (ret w h) (awaits w h))) (stops n)) (sym (finished w h).answer)
 
-              chosen : (b : Bool) → eqb done.refusal 0 ≡ b → (w : World) (h : Holding P w state live store)
-                  → if? b (does (done_by P word (ret w h) (awaits w h)) (machine_done P word (ret w h) (awaits w h))) (stops done.refusal) ≡ replied P (rooms_of live store) word (ret w h) w
+              chosen : (b : Bool) → eqb (finish_number done) 0 ≡ b → (w : World) (h : Holding P w state live store)
+                  → if? b (does (done_by P word (ret w h) (awaits w h)) (machine_done P word (ret w h) (awaits w h))) (stops (finish_number done)) ≡ replied P (rooms_of live store) word (ret w h) w
               chosen b e w h =
-                  sym (replied_is w h ∙ ap (λ (b : Bool). if? b (does (done_by P word (ret w h) (awaits w h)) (machine_done P word (ret w h) (awaits w h))) (stops done.refusal)) e)
+                  sym (replied_is w h ∙ ap (λ (b : Bool). if? b (does (done_by P word (ret w h) (awaits w h)) (machine_done P word (ret w h) (awaits w h))) (stops (finish_number done))) e)
 
-              pub reply_refused : (done.refusal ≡ 0 → ⊥) → RepliesWorld P word (return_with r (cells args) (cells handlers)) done.refusal state live store state' live store'
-              reply_refused n =
-                  let u = o.refused n in
+              pub reply_refused : {x : Refusal} → done ≡ Err x → RepliesWorld P word (return_with r (cells args) (cells handlers)) (number x) state live store state' live store'
+              reply_refused {x} e =
+                  let kept = o.refused in
+                  let u : (state' ≡ state) × (copy ≡ left) × (store' ≡ store) = rw e at kept in
+                  let n : finish_number done ≡ number x = ap finish_number e in
+                  let z : eqb (finish_number done) 0 ≡ false = ap (λ (k : ℕ). eqb k 0) n ∙ ne_eqb (number x) 0 (some x) in
                   record {
-                    leaves = λ w h. subst (λ (x : Outcome). Leaves x done.refusal state live store state' live store') (chosen false (ne_eqb done.refusal 0 n) w h) (refl, u.0, refl, u.2);
+                    leaves = λ w h. subst (λ (y : Outcome). Leaves y (number x) state live store state' live store') (ap (λ (k : ℕ). stops k) (sym n) ∙ chosen false z w h) (refl, u.0, refl, u.2);
                     same_state = o.same_state;
                     same_live = record { rest = refl; len = refl };
                     same_store = o.same_store;
                   }
 
               -- what is done goes back to the live stack
-              module _ (ok : done.refusal ≡ 0) where
-                used_here : (w : World) (h : Holding P w state live store) → done.live ≡ length (live_cells (world (machine_done P word (ret w h) (awaits w h)) false 64))
+              module _ {count : ℕ} (ok : done ≡ Ok count) where
+                cells_here : (w : World) (h : Holding P w state live store) → count ≡ (counts_of (machine_done P word (ret w h) (awaits w h))).live
+                cells_here w h = let n = (finished w h).used in rw ok at n
+
+                used_here : (w : World) (h : Holding P w state live store) → count ≡ length (live_cells (world (machine_done P word (ret w h) (awaits w h)) false 64))
                 used_here w h =
                     let m' = machine_done P word (ret w h) (awaits w h) in
-                    omega (arith, (finished w h).used ok, length-append (flat m'.frames) (result_shown m'.result).args, length_flat m'.frames, args_cost m'.result)
+                    omega (arith, cells_here w h, length-append (flat m'.frames) (result_shown m'.result).args, length_flat m'.frames, args_cost m'.result)
 
-                pub reply_copies : (0 + done.live ≤ room live) × (0 + done.live ≤ room copy)
+                pub reply_copies : (0 + count ≤ room live) × (0 + count ≤ room copy)
                 reply_copies =
-                    let z = granted (rooms_of live store) (counts_of (machine_done P word (ret this held_this) (awaits this held_this))) (sym (finished this held_this).answer ∙ ok) in
-                    (omega (arith, (finished this held_this).used ok, z.1), omega (arith, (finished this held_this).used ok, z.1, o.same_live.len, k.same.len, y.same.len, size, p.entered.small.0))
+                    let z = granted (rooms_of live store) (counts_of (machine_done P word (ret this held_this) (awaits this held_this))) (sym (finished this held_this).answer ∙ ap finish_number ok) in
+                    (omega (arith, cells_here this held_this, z.1), omega (arith, cells_here this held_this, z.1, o.same_live.len, k.same.len, y.same.len, size, p.entered.small.0))
 
-                pub reply_done : {live' : List ℕ} → Writes live (paste (cells live) 0 (drop 0 (cells copy)) done.live) live' → RepliesWorld P word (return_with r (cells args) (cells handlers)) 0 state live store state' live' store'
+                pub reply_done : {live' : List ℕ} → Writes live (paste (cells live) 0 (drop 0 (cells copy)) count) live' → RepliesWorld P word (return_with r (cells args) (cells handlers)) 0 state live store state' live' store'
                 reply_done {live'} c = record {
                   leaves = λ w h.
                       let m' = machine_done P word (ret w h) (awaits w h) in
-                      let x = (finished w h).holds ok in
-                      let front : take done.live (cells copy) ≡ live_cells (world m' false 64) = ap (take done.live) x.live ∙ take_at (live_cells (world m' false 64)) x.free_live done.live (sym (used_here w h)) in
-                      subst (λ (o : Outcome). Leaves o 0 state live store state' live' store') (chosen true (eq-eqb done.refusal 0 ok) w h)
-                      (refl, record { state = x.state; free_live = drop done.live (cells live); live = c.cells ∙ paste_front (cells live) (cells copy) done.live ∙ ap (λ (l : List Cell). l ++ drop done.live (cells live)) front; free_store = x.free_store; store = x.store }, (o.appends P (M₀ w h) m' (carries w h) (rests w h) (held w h) ok).free);
+                      let kept = (finished w h).holds in
+                      let x : Holds (world m' false 64) (cells state') (cells copy) (cells store') = rw ok at kept in
+                      let behind = o.appends P (M₀ w h) m' (carries w h) (rests w h) (held w h) in
+                      let front : take count (cells copy) ≡ live_cells (world m' false 64) = ap (take count) x.live ∙ take_at (live_cells (world m' false 64)) x.free_live count (sym (used_here w h)) in
+                      subst (λ (o : Outcome). Leaves o 0 state live store state' live' store') (chosen true (ap (λ (d : std.Result ℕ Refusal). eqb (finish_number d) 0) ok) w h)
+                      (refl, record { state = x.state; free_live = drop count (cells live); live = c.cells ∙ paste_front (cells live) (cells copy) count ∙ ap (λ (l : List Cell). l ++ drop count (cells live)) front; free_store = x.free_store; store = x.store }, (rw ok at behind).free);
                   same_state = o.same_state;
                   same_live = record { rest = c.rest; len = c.len };
                   same_store = o.same_store;

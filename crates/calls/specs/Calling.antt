@@ -1,5 +1,5 @@
 -- A call and a return: what a value is when it is called, and one law for each return.
-use Rattle.std.specs.Prelude.{◌≡◌, Bool, not, ◌⊎◌, ℕ, ◌+◌, ◌%◌, ◌<◌, ◌≤◌}
+use Rattle.std.specs.Prelude.{◌≡◌, Bool, not, ◌⊎◌, ℕ, ◌+◌, ◌%◌, ◌<◌, ◌≤◌, Option, Some, None}
 use Rattle.std.proofs.Math.Path.{refl, sym, ap, subst}
 use Rattle.std.proofs.Common.{◌∙◌, arith, length-append}
 use mathlib.Core.List.{List, [], ◌∷◌, ◌++◌, reverse}
@@ -34,13 +34,12 @@ use Rattle.plan.specs.Searches.{Lies}
 use Rattle.plan.specs.declared.Counts.{Counts}
 use Rattle.plan.specs.declared.Params.{Params}
 use Rattle.plan.specs.declared.Error.{Error}
-use Rattle.plan.specs.declared.Start.{Start}
 use Rattle.plan.specs.declared.Plan.{Plan}
 use Rattle.plan.specs.declared.Plan.TheVariants.{Starts, Resumes, Receives, Returns}
 use Rattle.calls.specs.declared.Beginning.{Beginning}
-use Rattle.calls.specs.declared.Beginning.TheVariants as beginning
 use Rattle.calls.specs.Called.{checks, callback_frame, code_named, Callable, ThrowsError, CallsFunction, BeginsNone, BeginsCall, ReturnsValue}
 use Rattle.calls.specs.Performing.{checks_args, wrong_is, args_enough}
+use Rattle.plan.specs.declared.FrameKind.TheVariants as kinds
 
 -- ---- What a value is
 pub record Closed (s : List Object) (f : Cell) : Type 0 where
@@ -222,15 +221,15 @@ calls_by {P} {args = args} {r = r} to same does = record {
 }
 
 -- ---- Frames of a callback of the host and of an effect
-module _ (P : Program) (frames : ℕ) (f : Cell) (n : ℕ) (L S : List Cell) (starts : List ℕ) {r : Beginning} where
-  pub begins_effect : (f.tag ≡ 8) ⊎ (f.tag ≡ 24) → r ≡ callback_frame 66 f → BeginsCall P frames f n L S starts r
+module _ (P : Program) (frames : ℕ) (f : Cell) (n : ℕ) (L S : List Cell) (starts : List ℕ) {r : Option Beginning} where
+  pub begins_effect : (f.tag ≡ 8) ⊎ (f.tag ≡ 24) → r ≡ callback_frame kinds.Effect f → BeginsCall P frames f n L S starts r
   unfolding call_function parse written
   begins_effect e q = rw q λ args l.
       calls_by (λ s m. with_frames (effect_callback f (reverse args) [] ∷ m.frames) m)
       (λ m c h w. ap (λ (g : Function). call_function P g f args m) (function_effect m.store f e))
       (λ m l u w. record { frame = effect_callback f (reverse args) []; is = refl; enough = λ z. absurd (clash z); after = refl })
 
-  pub begins_host : f.tag ≡ 39 → r ≡ callback_frame 65 f → BeginsCall P frames f n L S starts r
+  pub begins_host : f.tag ≡ 39 → r ≡ callback_frame kinds.Host f → BeginsCall P frames f n L S starts r
   unfolding call_function parse written
   begins_host e q = rw q λ args l.
       calls_by (λ s m. with_frames (host f.number f.payload (reverse args) [] ∷ m.frames) m)
@@ -301,7 +300,7 @@ module _ (image rows constants inner : List ℕ) (codes : ℕ) where
         }
 
         pub closure_starts : {code locals : ℕ} → not t ≡ false → code ≡ code_named S f → locals ≡ (body_at image rows code).locals → (args : List Cell) → length args ≡ n
-            → CallsFunction P frames f args L S starts (Starts (record { kind = 64; subject = f; locals = locals }) p)
+            → CallsFunction P frames f args L S starts (Starts (record { kind = kinds.Lucia; subject = f; locals = locals }) p)
         unfolding written
         closure_starts {locals = locals} on k q args l =
             let c = code_of P (code_named S f) in
@@ -310,8 +309,8 @@ module _ (image rows constants inner : List ℕ) (codes : ℕ) where
             calls_by (λ s m. call_closure P f.number c args m) (closure_is f e args)
             (λ m j u v.
             let w = value_closed P m.store f v e in
-            subst (Carries P (Starts (record { kind = 64; subject = f; locals = locals }) p) args m) (sym (closure_by P f c args m l fits))
-            (subst (λ (r : Plan). Carries P r args m (framed f args c m)) (λ i. Starts (record { kind = 64; subject = sym w.is i; locals = sym same i }) (sym params_are i))
+            subst (Carries P (Starts (record { kind = kinds.Lucia; subject = f; locals = locals }) p) args m) (sym (closure_by P f c args m l fits))
+            (subst (λ (r : Plan). Carries P r args m (framed f args c m)) (λ i. Starts (record { kind = kinds.Lucia; subject = sym w.is i; locals = sym same i }) (sym params_are i))
             (record {
               frame = new_frame f.number c (parse_args (code_params c) args m.store).args;
               is = refl;
@@ -343,11 +342,11 @@ module _ {P : Program} {f : Cell} {S : List Cell} where
       (λ m l u v. w.carries m args (meta_un_operator 0 (type_of f)) l u (q ∙ ap (λ (n : ℕ). error_of (meta_un_operator 0 n)) t))
 
 -- ---- What a call does with what it begins
-module _ (P : Program) (frames : ℕ) (f : Cell) (args : List ℕ) (L S : List Cell) (starts : List ℕ) {n : ℕ} (l : n ≡ room args) {o : Beginning} (h : BeginsCall P frames f n L S starts o) where
-  pub call_begins : {k : Start} {p : Params} → o ≡ beginning.Frame k p → CallsFunction P frames f (cells args) L S starts (Starts k p)
+module _ (P : Program) (frames : ℕ) (f : Cell) (args : List ℕ) (L S : List Cell) (starts : List ℕ) {n : ℕ} (l : n ≡ room args) {o : Option Beginning} (h : BeginsCall P frames f n L S starts o) where
+  pub call_begins : {b : Beginning} → o ≡ Some b → CallsFunction P frames f (cells args) L S starts (Starts b.start b.params)
   call_begins q = subst (BeginsCall P frames f n L S starts) q h (cells args) (length_cells args ∙ sym l)
 
-  pub call_other : o ≡ beginning.NoFrame → BeginsNone P f (room args) S
+  pub call_other : o ≡ None → BeginsNone P f (room args) S
   call_other q = subst (λ (i : ℕ). BeginsNone P f i S) l (subst (BeginsCall P frames f n L S starts) q h)
 
 -- ---- A continuation

@@ -1,5 +1,5 @@
 -- A perform and a throw: one law for each return.
-use Rattle.std.specs.Prelude.{◌≡◌, List, [], ◌∷◌, Bool, true, false, not, ◌⊎◌, length, eqb, leb}
+use Rattle.std.specs.Prelude.{◌≡◌, List, [], ◌∷◌, Bool, true, false, not, ◌⊎◌, length, eqb, leb, Option, Some, None}
 use Rattle.std.proofs.Math.Path.{refl, sym, ap, subst}
 use Rattle.std.proofs.Common.{◌∙◌, ⊎_elim}
 use Prim.Native.Nat.{ℕ, zero, suc, ◌-◌}
@@ -18,12 +18,11 @@ use Rattle.plan.specs.Searches.{SearchedIn, Searched}
 use Rattle.plan.specs.declared.Params.{Params}
 use Rattle.plan.specs.declared.Error.{Error}
 use Rattle.plan.specs.declared.Found.{Found}
-use Rattle.plan.specs.declared.Found.TheVariants.{In, Nowhere}
 use Rattle.plan.specs.declared.Plan.{Plan}
 use Rattle.plan.specs.declared.Plan.TheVariants.{Handles, Catches, Unhandled, Fails, Stays}
-use Rattle.calls.specs.declared.Cause.{Cause}
-use Rattle.calls.specs.declared.Cause.TheVariants.{Performed, Thrown}
 use Rattle.calls.specs.Called.{checks, Caused, Handling, Lacking, Performs, ThrowsError}
+use Rattle.plan.specs.declared.ErrorKind.TheVariants.{CallArguments}
+use Rattle.plan.specs.Kinds.{kind_of}
 
 -- ---- How many arguments fit
 module _ (p : Params) (n : ℕ) where
@@ -40,23 +39,23 @@ module _ (p : Params) (n : ℕ) where
 
 -- a refused count, shown: one bit says that it has no upper end
 pub wrong_shown : (count n : ℕ) {b : Bool} {u : ℕ} → ((b ≡ true) × (u ≡ 1)) ⊎ ((b ≡ false) × (u ≡ 0))
-    → ◌≡◌ {A = Error} (record { kind = 3; value = record { tag = count; number = u; payload = n }; second = 0 }) (error_of (call_arguments count b n))
-unfolding error_shown
+    → ◌≡◌ {A = Error} (record { kind = CallArguments; value = record { tag = count; number = u; payload = n }; second = 0 }) (error_of (call_arguments count b n))
+unfolding error_shown kind_of
 wrong_shown count n h = ⊎_elim (λ w. rw (w.0, w.1) refl) (λ w. rw (w.0, w.1) refl) h
 
--- ---- The plan by the cause
-module _ {cause : Cause} (e : Cell) where
+-- ---- The plan by the thrown
+module _ {thrown : Option Error} (e : Cell) where
   module _ (i j : ℕ) (p : Params) where
-    pub handling_performed : cause ≡ Performed → Handling i j e p cause (Handles i j e p)
+    pub handling_performed : thrown ≡ None → Handling i j e p thrown (Handles i j e p)
     handling_performed q = rw q refl
 
-    pub handling_thrown : {x : Error} → cause ≡ Thrown x → Handling i j e p cause (Catches i j x)
+    pub handling_thrown : {x : Error} → thrown ≡ Some x → Handling i j e p thrown (Catches i j x)
     handling_thrown q = rw q refl
 
-  pub lacking_performed : cause ≡ Performed → Lacking e cause (Unhandled e)
+  pub lacking_performed : thrown ≡ None → Lacking e thrown (Unhandled e)
   lacking_performed q = rw q refl
 
-  pub lacking_thrown : {x : Error} → cause ≡ Thrown x → Lacking e cause (Fails x)
+  pub lacking_thrown : {x : Error} → thrown ≡ Some x → Lacking e thrown (Fails x)
   lacking_thrown q = rw q refl
 
 -- the same of the machine's parameters and arguments
@@ -111,9 +110,9 @@ thrown_params P (lucia_error c) = refl
 thrown_params P (lucia_panic c) = refl
 
 module _ {P : Program} {e : Cell} {p : Params} (is : p ≡ params_of (effect_params P e)) (r : Plan) {m m' : M} {args : List Cell} (given : List Cell) (left : Result) where
-  handling_carries : (i j : ℕ) (cause : Cause) → Handling i j e p cause r → Caused cause e args given left → Handled P i j e p args m m' → Carries P r given m m'
-  handling_carries i j Performed h k w = rw (h, k.0) w
-  handling_carries i j (Thrown x) h k w =
+  handling_carries : (i j : ℕ) (thrown : Option Error) → Handling i j e p thrown r → Caused thrown e args given left → Handled P i j e p args m m' → Carries P r given m m'
+  handling_carries i j None h k w = rw (h, k.0) w
+  handling_carries i j (Some x) h k w =
       rw h
       (record {
         error = k.error;
@@ -124,37 +123,37 @@ module _ {P : Program} {e : Cell} {p : Params} (is : p ≡ params_of (effect_par
             (subst (λ (a : List Cell). Handled P i j e one_param a m m') k.arguments (subst (λ (q : Params). Handled P i j e q args m m') one w));
       })
 
-lacking_carries : (P : Program) (e : Cell) (r : Plan) (m : M) (args given : List Cell) (left : Result) (cause : Cause) → Lacking e cause r → Caused cause e args given left → Carries P r given m (with_result left m)
-lacking_carries P e r m args given left Performed h k = rw (h, k.0) (ap (λ (x : Result). with_result x m) k.1)
-lacking_carries P e r m args given left (Thrown x) h k = rw h (record { error = k.error; is = k.is; after = ap (λ (y : Result). with_result y m) k.fails })
+lacking_carries : (P : Program) (e : Cell) (r : Plan) (m : M) (args given : List Cell) (left : Result) (thrown : Option Error) → Lacking e thrown r → Caused thrown e args given left → Carries P r given m (with_result left m)
+lacking_carries P e r m args given left None h k = rw (h, k.0) (ap (λ (x : Result). with_result x m) k.1)
+lacking_carries P e r m args given left (Some x) h k = rw h (record { error = k.error; is = k.is; after = ap (λ (y : Result). with_result y m) k.fails })
 
 -- ---- `perform_effect_with`
-module _ {P : Program} {frames throws n : ℕ} {e : Cell} {cause : Cause} {L : List Cell} {starts : List ℕ} {p : Params} (is : p ≡ params_of (effect_params P e)) {t : Bool} (test : t ≡ checks p n) {r : Plan} where
-  pub performs_wrong : {x : Error} → not t ≡ true → x ≡ error_of (call_arguments p.count p.variadic n) → ThrowsError P frames throws x L starts r → Performs P frames throws e n cause L starts r
+module _ {P : Program} {frames throws n : ℕ} {e : Cell} {thrown : Option Error} {L : List Cell} {starts : List ℕ} {p : Params} (is : p ≡ params_of (effect_params P e)) {t : Bool} (test : t ≡ checks p n) {r : Plan} where
+  pub performs_wrong : {x : Error} → not t ≡ true → x ≡ error_of (call_arguments p.count p.variadic n) → ThrowsError P frames throws x L starts r → Performs P frames throws e n thrown L starts r
   performs_wrong f q w = record {
     carries = λ m args given left c u l k.
         subst (Carries P r given m) (sym (perform_is P e args l is (throw_error throws P) left m (sym test ∙ not-true t f)))
         (w.carries m given (wrong_count (effect_params P e) args) c u (wrong_is (effect_params P e) args l is q));
   }
 
-  module _ {o : Found} (f : not t ≡ false) (s : (F : List Frame) → length F ≡ frames → Under F L starts → Searched P e F o) where
-    pub performs_handled : {i j : ℕ} → o ≡ In i j → Handling i j e p cause r → Performs P frames throws e n cause L starts r
-    performs_handled {i} {j} q h = record {
+  module _ {o : Option Found} (f : not t ≡ false) (s : (F : List Frame) → length F ≡ frames → Under F L starts → Searched P e F o) where
+    pub performs_handled : {y : Found} → o ≡ Some y → Handling y.frame y.handler e p thrown r → Performs P frames throws e n thrown L starts r
+    performs_handled {y} q h = record {
       carries = λ m args given left c u l k.
           let fits : checks p n ≡ true = sym test ∙ not-false t f in
-          let found : SearchedIn P e m.frames i j = subst (Searched P e m.frames) q (s m.frames c u) in
+          let found : SearchedIn P e m.frames y.frame y.handler = subst (Searched P e m.frames) q (s m.frames c u) in
           subst (Carries P r given m) (sym (perform_is P e args l is (throw_error throws P) left m fits))
-          (handling_carries is r given left i j cause h k (handled_there P e args l is i j left m fits found));
+          (handling_carries is r given left y.frame y.handler thrown h k (handled_there P e args l is y.frame y.handler left m fits found));
     }
 
-    pub performs_unhandled : o ≡ Nowhere → Lacking e cause r → Performs P frames throws e n cause L starts r
+    pub performs_unhandled : o ≡ None → Lacking e thrown r → Performs P frames throws e n thrown L starts r
     unfolding capture
     performs_unhandled q h = record {
       carries = λ m args given left c u l k.
           let none : search P e m.frames ≡ machine.nowhere = subst (Searched P e m.frames) q (s m.frames c u) in
           subst (Carries P r given m)
           (sym (perform_is P e args l is (throw_error throws P) left m (sym test ∙ not-false t f) ∙ ap (capture P (effect_params P e) e args left m) none))
-          (lacking_carries P e r m args given left cause h k);
+          (lacking_carries P e r m args given left thrown h k);
     }
 
 -- ---- `throw_error`
@@ -163,7 +162,7 @@ module _ {P : Program} {frames : ℕ} (throws : ℕ) {x : Error} {L : List Cell}
   unfolding throw_error
   throw_none z = record { carries = λ m args y c u q. ap (λ (k : ℕ). throw_error k P y m) z }
 
-  pub throw_some : {e : Cell} {r : Plan} → (throws ≡ 0 → ⊥) → Throws x e → Performs P frames (throws - 1) e 1 (Thrown x) L starts r → ThrowsError P frames throws x L starts r
+  pub throw_some : {e : Cell} {r : Plan} → (throws ≡ 0 → ⊥) → Throws x e → Performs P frames (throws - 1) e 1 (Some x) L starts r → ThrowsError P frames throws x L starts r
   unfolding throw_error
   throw_some {e} {r} z h w = record {
     carries = λ m args y c u q.

@@ -9,26 +9,19 @@ ghost use Rattle.machine.specs.Values.{Program, code_params, call_arguments};
 ghost use Rattle.machine.specs.Machine.{Object, function_of};
 ghost use Rattle.machine.specs.Opcodes.{callable};
 ghost use Rattle.machine.specs.Calls.{is_value, is_function};
-ghost use Rattle.scan.specs.Tables.{program_in};
+ghost use Rattle.scan.specs.Tables.{program_of};
 ghost use Rattle.plan.specs.Plans.{params_of, error_of};
 ghost use Rattle.plan.specs.Searches.{Lies};
 ghost use Rattle.calls.specs.Called.{checks, Handling, Lacking, callback_frame, code_named, Callable, Performs, ThrowsError, CallsFunction, BeginsNone, BeginsCall, ReturnsValue};
 
 use cells::Cell;
-use plan::{Error, Found, Params, Plan, Start};
+use plan::{Error, ErrorKind, FrameKind, Params, Plan, Start};
 
-// Why an effect is performed: by a script or the host, or by a throw.
+// The frame that a call begins.
 #[derive(Clone, Copy)]
-pub enum Cause {
-    Performed,
-    Thrown(Error),
-}
-
-// The frame that a call begins, or that it begins none.
-#[derive(Clone, Copy)]
-pub enum Beginning {
-    Frame(Start, Params),
-    NoFrame,
+pub struct Beginning {
+    pub start: Start,
+    pub params: Params,
 }
 
 // `check_args`.
@@ -50,7 +43,7 @@ fn wrong_count(p: Params, n: usize) -> Error
         unbounded = 1;
     }
     Error {
-        kind: 3,
+        kind: ErrorKind::CallArguments,
         value: Cell {
             tag: p.count as u32,
             number: unbounded,
@@ -61,67 +54,55 @@ fn wrong_count(p: Params, n: usize) -> Error
 }
 
 // Where a frame handles the effect.
-fn handled(frame: usize, handler: usize, e: Cell, p: Params, cause: Cause) -> Plan
-    ensures { Handling frame handler e p cause result }
+fn handled(frame: usize, handler: usize, e: Cell, p: Params, thrown: Option<Error>) -> Plan
+    ensures { Handling frame handler e p thrown result }
 {
-    match cause {
-        Cause::Performed => Plan::Handles(frame, handler, e, p),
-        Cause::Thrown(x) => Plan::Catches(frame, handler, x),
+    match thrown {
+        None => Plan::Handles(frame, handler, e, p),
+        Some(x) => Plan::Catches(frame, handler, x),
     }
 }
 
 // Where none does.
-fn unhandled(e: Cell, cause: Cause) -> Plan
-    ensures { Lacking e cause result }
+fn unhandled(e: Cell, thrown: Option<Error>) -> Plan
+    ensures { Lacking e thrown result }
 {
-    match cause {
-        Cause::Performed => Plan::Unhandled(e),
-        Cause::Thrown(x) => Plan::Fails(x),
+    match thrown {
+        None => Plan::Unhandled(e),
+        Some(x) => Plan::Fails(x),
     }
 }
 
-// An effect with n arguments: a wrong count is thrown.
+// An effect with n arguments, performed by a script or the host, or by a throw of an error: a wrong count is thrown.
 #[cycle(perform_effect_with_throw_error)]
 pub fn perform_effect_with(
-    image: &[u8],
-    rows: &[u32],
-    constants: &[u32],
-    inner: &[u32],
-    codes: usize,
+    program: &lookups::Program,
     live: &[u8],
     starts: &[u32],
     frames: usize,
     throws: u32,
     e: Cell,
     n: usize,
-    cause: Cause,
+    thrown: Option<Error>,
 ) -> Plan
     requires { Lies frames (cells live.now) starts.now }
-    ensures { Performs (program_in image.now rows.now constants.now inner.now codes) frames throws e n cause (cells live.now) starts.now result }
+    ensures { Performs (program_of program.now) frames throws e n thrown (cells live.now) starts.now result }
 {
-    let p = effects::effect_params(image, rows, constants, inner, codes, e);
+    let p = effects::effect_params(program, e);
     if !check_args(p, n) {
         let x = wrong_count(p, n);
-        return throw_error(
-            image, rows, constants, inner, codes, live, starts, frames, throws, x,
-        );
+        return throw_error(program, live, starts, frames, throws, x);
     }
-    match handlers::search(
-        image, rows, constants, inner, codes, live, starts, frames, e,
-    ) {
-        Found::In(i, j) => handled(i, j, e, p, cause),
-        Found::Nowhere => unhandled(e, cause),
+    match handlers::search(program, live, starts, frames, e) {
+        Some(found) => handled(found.frame, found.handler, e, p, thrown),
+        None => unhandled(e, thrown),
     }
 }
 
 // A throw performs its builtin; throws left fall from one to none, since the error always fits.
 #[cycle(perform_effect_with_throw_error)]
 pub fn throw_error(
-    image: &[u8],
-    rows: &[u32],
-    constants: &[u32],
-    inner: &[u32],
-    codes: usize,
+    program: &lookups::Program,
     live: &[u8],
     starts: &[u32],
     frames: usize,
@@ -129,24 +110,20 @@ pub fn throw_error(
     x: Error,
 ) -> Plan
     requires { Lies frames (cells live.now) starts.now }
-    ensures { ThrowsError (program_in image.now rows.now constants.now inner.now codes) frames throws x (cells live.now) starts.now result }
+    ensures { ThrowsError (program_of program.now) frames throws x (cells live.now) starts.now result }
 {
     if throws == 0 {
         return Plan::Stays;
     }
     perform_effect_with(
-        image,
-        rows,
-        constants,
-        inner,
-        codes,
+        program,
         live,
         starts,
         frames,
         throws - 1,
         values::thrown(x),
         1,
-        Cause::Thrown(x),
+        Some(x),
     )
 }
 
@@ -173,101 +150,87 @@ pub fn is_function(f: Cell) -> bool
 }
 
 // A frame of a callback of the host or of an effect: all arguments as they are.
-fn callback(kind: u32, f: Cell) -> Beginning
+fn callback(kind: FrameKind, f: Cell) -> Option<Beginning>
     ensures { result ≡ callback_frame kind f }
 {
-    Beginning::Frame(
-        Start {
+    Some(Beginning {
+        start: Start {
             kind,
             subject: f,
             locals: 0,
         },
-        Params {
+        params: Params {
             count: 0,
             variadic: false,
         },
-    )
+    })
 }
 
 // The parameters of a closure.
-fn closure_params(image: &[u8], rows: &[u32], store: &[u8], f: Cell) -> Params
+fn closure_params(program: &lookups::Program, store: &[u8], f: Cell) -> Params
     requires { f.number < room store.now }
-    ensures { result ≡ params_of (code_params (body_at image.now rows.now (code_named (cells store.now) f))) }
+    ensures { result ≡ params_of (code_params (body_at program.now.image.now program.now.rows.now (code_named (cells store.now) f))) }
 {
     let code = cells::number(store, f.number as usize) as usize;
     Params {
-        count: lookups::params(image, rows, code),
-        variadic: lookups::variadic(image, rows, code) == 1,
+        count: program.params(code),
+        variadic: program.variadic(code) == 1,
     }
 }
 
 // A closure: a new frame of it, if the count fits.
 fn closure_frame(
-    image: &[u8],
-    rows: &[u32],
-    constants: &[u32],
-    inner: &[u32],
-    codes: usize,
+    program: &lookups::Program,
     live: &[u8],
     store: &[u8],
     starts: &[u32],
     frames: usize,
     f: Cell,
     n: usize,
-) -> Beginning
-    requires { (f.tag ≡ 7) × Callable (program_in image.now rows.now constants.now inner.now codes) f frames (cells live.now) (cells store.now) starts.now }
-    ensures { BeginsCall (program_in image.now rows.now constants.now inner.now codes) frames f n (cells live.now) (cells store.now) starts.now result }
+) -> Option<Beginning>
+    requires { (f.tag ≡ 7) × Callable (program_of program.now) f frames (cells live.now) (cells store.now) starts.now }
+    ensures { BeginsCall (program_of program.now) frames f n (cells live.now) (cells store.now) starts.now result }
 {
-    let p = closure_params(image, rows, store, f);
+    let p = closure_params(program, store, f);
     if !check_args(p, n) {
-        return Beginning::NoFrame;
+        return None;
     }
     let code = cells::number(store, f.number as usize) as usize;
-    Beginning::Frame(
-        Start {
-            kind: 64,
+    Some(Beginning {
+        start: Start {
+            kind: FrameKind::Lucia,
             subject: f,
-            locals: lookups::locals(image, rows, code) as u32,
+            locals: program.locals(code) as u32,
         },
-        p,
-    )
+        params: p,
+    })
 }
 
 // A closure that takes n arguments, a callback of the host and an effect begin a frame, and nothing else is done.
 pub fn frame_of(
-    image: &[u8],
-    rows: &[u32],
-    constants: &[u32],
-    inner: &[u32],
-    codes: usize,
+    program: &lookups::Program,
     live: &[u8],
     store: &[u8],
     starts: &[u32],
     frames: usize,
     f: Cell,
     n: usize,
-) -> Beginning
-    requires { Callable (program_in image.now rows.now constants.now inner.now codes) f frames (cells live.now) (cells store.now) starts.now }
-    ensures { BeginsCall (program_in image.now rows.now constants.now inner.now codes) frames f n (cells live.now) (cells store.now) starts.now result }
+) -> Option<Beginning>
+    requires { Callable (program_of program.now) f frames (cells live.now) (cells store.now) starts.now }
+    ensures { BeginsCall (program_of program.now) frames f n (cells live.now) (cells store.now) starts.now result }
 {
     let tag = f.tag;
     match tag {
-        8 | 24 => callback(66, f),
-        39 => callback(65, f),
-        7 => closure_frame(
-            image, rows, constants, inner, codes, live, store, starts, frames, f, n,
-        ),
-        _ => Beginning::NoFrame,
+        8 | 24 => callback(FrameKind::Effect, f),
+        39 => callback(FrameKind::Host, f),
+        7 => closure_frame(program, live, store, starts, frames, f, n),
+        _ => None,
     }
 }
 
 // `resume`: a continuation takes one value.
 fn resume(
-    image: &[u8],
-    rows: &[u32],
-    constants: &[u32],
-    inner: &[u32],
-    codes: usize,
+    program: &lookups::Program,
     live: &[u8],
     starts: &[u32],
     frames: usize,
@@ -275,7 +238,7 @@ fn resume(
     args: &[u8],
 ) -> Plan
     requires { (f.tag ≡ 23) × Lies frames (cells live.now) starts.now }
-    ensures { (S : List Cell) → CallsFunction (program_in image.now rows.now constants.now inner.now codes) frames f (cells args.now) (cells live.now) S starts.now result }
+    ensures { (S : List Cell) → CallsFunction (program_of program.now) frames f (cells args.now) (cells live.now) S starts.now result }
 {
     let n = cells::room(args);
     if n == 1 {
@@ -286,18 +249,12 @@ fn resume(
         variadic: false,
     };
     let x = wrong_count(one, n);
-    throw_error(
-        image, rows, constants, inner, codes, live, starts, frames, 1, x,
-    )
+    throw_error(program, live, starts, frames, 1, x)
 }
 
 // A call that begins no frame: a resume, or a throw, since the count does not fit or the value is no function.
 fn no_frame(
-    image: &[u8],
-    rows: &[u32],
-    constants: &[u32],
-    inner: &[u32],
-    codes: usize,
+    program: &lookups::Program,
     live: &[u8],
     store: &[u8],
     starts: &[u32],
@@ -305,32 +262,22 @@ fn no_frame(
     f: Cell,
     args: &[u8],
 ) -> Plan
-    requires { BeginsNone (program_in image.now rows.now constants.now inner.now codes) f (room args.now) (cells store.now) × Callable (program_in image.now rows.now constants.now inner.now codes) f frames (cells live.now) (cells store.now) starts.now }
-    ensures { CallsFunction (program_in image.now rows.now constants.now inner.now codes) frames f (cells args.now) (cells live.now) (cells store.now) starts.now result }
+    requires { BeginsNone (program_of program.now) f (room args.now) (cells store.now) × Callable (program_of program.now) f frames (cells live.now) (cells store.now) starts.now }
+    ensures { CallsFunction (program_of program.now) frames f (cells args.now) (cells live.now) (cells store.now) starts.now result }
 {
     let tag = f.tag;
     match tag {
         7 => throw_error(
-            image,
-            rows,
-            constants,
-            inner,
-            codes,
+            program,
             live,
             starts,
             frames,
             1,
-            wrong_count(closure_params(image, rows, store, f), cells::room(args)),
+            wrong_count(closure_params(program, store, f), cells::room(args)),
         ),
-        23 => resume(
-            image, rows, constants, inner, codes, live, starts, frames, f, args,
-        ),
+        23 => resume(program, live, starts, frames, f, args),
         _ => throw_error(
-            image,
-            rows,
-            constants,
-            inner,
-            codes,
+            program,
             live,
             starts,
             frames,
@@ -342,11 +289,7 @@ fn no_frame(
 
 // `call_function`: a new frame, a resume, or a throw.
 pub fn call_function(
-    image: &[u8],
-    rows: &[u32],
-    constants: &[u32],
-    inner: &[u32],
-    codes: usize,
+    program: &lookups::Program,
     live: &[u8],
     store: &[u8],
     starts: &[u32],
@@ -354,26 +297,12 @@ pub fn call_function(
     f: Cell,
     args: &[u8],
 ) -> Plan
-    requires { Callable (program_in image.now rows.now constants.now inner.now codes) f frames (cells live.now) (cells store.now) starts.now }
-    ensures { CallsFunction (program_in image.now rows.now constants.now inner.now codes) frames f (cells args.now) (cells live.now) (cells store.now) starts.now result }
+    requires { Callable (program_of program.now) f frames (cells live.now) (cells store.now) starts.now }
+    ensures { CallsFunction (program_of program.now) frames f (cells args.now) (cells live.now) (cells store.now) starts.now result }
 {
-    match frame_of(
-        image,
-        rows,
-        constants,
-        inner,
-        codes,
-        live,
-        store,
-        starts,
-        frames,
-        f,
-        cells::room(args),
-    ) {
-        Beginning::Frame(k, p) => Plan::Starts(k, p),
-        Beginning::NoFrame => no_frame(
-            image, rows, constants, inner, codes, live, store, starts, frames, f, args,
-        ),
+    match frame_of(program, live, store, starts, frames, f, cells::room(args)) {
+        Some(b) => Plan::Starts(b.start, b.params),
+        None => no_frame(program, live, store, starts, frames, f, args),
     }
 }
 

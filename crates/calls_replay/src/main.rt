@@ -18,39 +18,47 @@ struct Answer {
     high: u64,
 }
 
-fn plain(code: u32) -> Answer {
-    Answer {
-        code,
-        ticks: 0,
-        low: 0,
-        high: 0,
+impl From<u32> for Answer {
+    fn from(code: u32) -> Answer {
+        Answer {
+            code,
+            ticks: 0,
+            low: 0,
+            high: 0,
+        }
     }
 }
 
-fn got(r: asks::Got) -> Answer {
-    Answer {
-        code: r.code,
-        ticks: 0,
-        low: r.low,
-        high: r.high,
+impl From<asks::Got> for Answer {
+    fn from(got: asks::Got) -> Answer {
+        Answer {
+            code: got.code,
+            ticks: 0,
+            low: got.low,
+            high: got.high,
+        }
     }
 }
 
-fn part(r: asks::Part) -> Answer {
-    Answer {
-        code: r.code,
-        ticks: r.from,
-        low: r.start,
-        high: r.len,
+impl From<asks::Part> for Answer {
+    fn from(part: asks::Part) -> Answer {
+        Answer {
+            code: part.code,
+            ticks: part.from,
+            low: part.start,
+            high: part.len,
+        }
     }
 }
 
-fn ran(r: runs::Ran) -> Answer {
-    Answer {
-        code: r.code,
-        ticks: r.ticks,
-        low: 0,
-        high: 0,
+impl From<runs::Ran> for Answer {
+    fn from(ran: runs::Ran) -> Answer {
+        Answer {
+            code: ran.code,
+            ticks: ran.ticks,
+            low: 0,
+            high: 0,
+        }
     }
 }
 
@@ -58,10 +66,10 @@ fn ran(r: runs::Ran) -> Answer {
 fn poke(state: &mut [u8], at: u64, byte: u64) -> Answer {
     let place = at as usize;
     if place >= state.len() {
-        return plain(0);
+        return Answer::from(0);
     }
     state[place] = (byte % 256) as u8;
-    plain(0)
+    Answer::from(0)
 }
 
 fn play(
@@ -80,19 +88,21 @@ fn play(
     let high = cells::read64(head, 40);
     let word = cells::read64(head, 48);
     match cells::read32(head, 0) {
-        0 => got(executor::lucia_load(image, state, live, store)),
-        1 => plain(executor::lucia_start(image, state, live, store, low, high, args)),
-        2 => ran(executor::lucia_run(image, state, live, store, fuel, number)),
-        3 => plain(executor::lucia_answer(
+        0 => Answer::from(executor::lucia_load(image, state, live, store)),
+        1 => Answer::from(executor::lucia_start(image, state, live, store, low, high, args)),
+        2 => Answer::from(executor::lucia_run(image, state, live, store, fuel, number)),
+        3 => Answer::from(executor::lucia_answer(
             image, state, live, store, fuel, number, word, low, high, args, handlers,
         )),
-        4 => plain(executor::lucia_clear(image, state, live, store)),
-        5 => part(executor::lucia_text(image, state, live, store, page, low, high)),
-        6 => part(executor::lucia_bytes(image, state, live, store, low, high)),
-        7 => plain(executor::lucia_set_global(image, state, live, store, number, low, high)),
-        8 => got(executor::lucia_get_global(image, state, live, store, number)),
-        9 => plain(executor::lucia_set_builtin(image, state, live, store, number, low, high)),
-        10 => got(executor::lucia_get_builtin(image, state, live, store, number)),
+        4 => Answer::from(executor::lucia_clear(image, state, live, store)),
+        5 => Answer::from(executor::lucia_text(image, state, live, store, page, low, high)),
+        6 => Answer::from(executor::lucia_bytes(image, state, live, store, low, high)),
+        7 => Answer::from(executor::lucia_set_global(image, state, live, store, number, low, high)),
+        8 => Answer::from(executor::lucia_get_global(image, state, live, store, number)),
+        9 => Answer::from(executor::lucia_set_builtin(
+            image, state, live, store, number, low, high,
+        )),
+        10 => Answer::from(executor::lucia_get_builtin(image, state, live, store, number)),
         _ => poke(state, low, high),
     }
 }
@@ -196,9 +206,10 @@ fn main(rt: HostRuntime) -> io::Result<()> {
     let mut state = [0u8; 8256];
     let mut live = [0u8; 32768];
     let mut store = [0u8; 1024];
-    let mut calls: u32 = 4000000000;
-    while calls > 0 && call(&mut input, &mut output, &mut state, &mut live, &mut store)? {
-        calls -= 1;
+    for _ in 0..4000000000u32 {
+        if !call(&mut input, &mut output, &mut state, &mut live, &mut store)? {
+            break;
+        }
     }
     Ok(())
 }

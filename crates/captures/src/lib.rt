@@ -53,11 +53,8 @@ fn enter_lucia(
     moves::settle(
         live,
         Running {
-            base: d.base,
-            locals: d.locals,
-            handlers: d.handlers,
-            stack: d.stack,
             place: target as usize,
+            ..d
         },
     );
 }

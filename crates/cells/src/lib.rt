@@ -14,68 +14,58 @@ pub struct Cell {
     pub payload: u64,
 }
 
-// A byte as a wider number: the contract says that it is below 256, which the cast alone does not.
-fn wide(x: u8) -> u16
-    ensures { (result ≡ x) × (result < 256) }
-{
-    x as u16
-}
-
 // The number of the 2 bytes at `at`, the lowest first.
+#[tactic(auto, using(crate::proofs::Bytes::le_bytes), unfolding(crate::specs::Le::le_at))]
 pub fn read16(s: &[u8], at: usize) -> u16
     requires { at + 2 ≤ length s.now }
     ensures { result ≡ le_at 2 s.now at }
 {
-    let low = wide(s[at]);
-    let high = wide(s[at + 1]);
-    low + high * 256
+    u16::from_le_bytes(s[at..at + 2].try_into().unwrap())
 }
 
 // The number of the 4 bytes at `at`.
+#[tactic(auto, using(crate::proofs::Bytes::le_bytes), unfolding(crate::specs::Le::le_at))]
 pub fn read32(s: &[u8], at: usize) -> u32
     requires { at + 4 ≤ length s.now }
     ensures { result ≡ le_at 4 s.now at }
 {
-    let low = read16(s, at);
-    let high = read16(s, at + 2);
-    (low as u32) + (high as u32) * 65536
+    u32::from_le_bytes(s[at..at + 4].try_into().unwrap())
 }
 
 // The number of the 8 bytes at `at`.
+#[tactic(auto, using(crate::proofs::Bytes::le_bytes), unfolding(crate::specs::Le::le_at))]
 pub fn read64(s: &[u8], at: usize) -> u64
     requires { at + 8 ≤ length s.now }
     ensures { result ≡ le_at 8 s.now at }
 {
-    let low = read32(s, at);
-    let high = read32(s, at + 4);
-    (low as u64) + (high as u64) * 4294967296
+    u64::from_le_bytes(s[at..at + 8].try_into().unwrap())
 }
 
 // The 2 bytes at `at` become x.
+#[tactic(auto, using(crate::proofs::Bytes::put_bytes))]
 pub fn write16(s: &mut [u8], at: usize, x: u16)
     requires { at + 2 ≤ length s.old }
     ensures { s.new ≡ put_at 2 s.old at x }
 {
-    s[at] = (x % 256) as u8;
-    s[at + 1] = (x / 256 % 256) as u8;
+    s[at..at + 2].copy_from_slice(&x.to_le_bytes());
 }
 
 // The 4 bytes at `at` become x.
+#[tactic(auto, using(crate::proofs::Bytes::put_bytes))]
 pub fn write32(s: &mut [u8], at: usize, x: u32)
     requires { at + 4 ≤ length s.old }
     ensures { s.new ≡ put_at 4 s.old at x }
 {
-    write16(s, at, (x % 65536) as u16);
-    write16(s, at + 2, (x / 65536) as u16);
+    s[at..at + 4].copy_from_slice(&x.to_le_bytes());
 }
 
 // The 8 bytes at `at` become x.
+#[tactic(auto, using(crate::proofs::Bytes::put_bytes))]
 pub fn write64(s: &mut [u8], at: usize, x: u64)
     requires { at + 8 ≤ length s.old }
     ensures { s.new ≡ put_at 8 s.old at x }
 {
-    write32(s, at, (x % 4294967296) as u32);
-    write32(s, at + 4, (x / 4294967296) as u32);
+    s[at..at + 8].copy_from_slice(&x.to_le_bytes());
 }
 
 // How many whole cells a slice has.
@@ -86,6 +76,7 @@ pub fn room(s: &[u8]) -> usize
 }
 
 // The tag of cell i; the rest of the cell is not read.
+#[tactic(auto, using(crate::specs::CellsLaws::cells_tag))]
 pub fn tag(s: &[u8], i: usize) -> u32
     requires { i < room s.now }
     ensures { result ≡ (get_or (cells s.now) i null).tag }
@@ -94,6 +85,7 @@ pub fn tag(s: &[u8], i: usize) -> u32
 }
 
 // The number of cell i.
+#[tactic(auto, using(crate::specs::CellsLaws::cells_number))]
 pub fn number(s: &[u8], i: usize) -> u32
     requires { i < room s.now }
     ensures { result ≡ (get_or (cells s.now) i null).number }
@@ -102,6 +94,7 @@ pub fn number(s: &[u8], i: usize) -> u32
 }
 
 // The payload of cell i.
+#[tactic(auto, using(crate::specs::CellsLaws::cells_payload))]
 pub fn payload(s: &[u8], i: usize) -> u64
     requires { i < room s.now }
     ensures { result ≡ (get_or (cells s.now) i null).payload }
@@ -114,13 +107,10 @@ pub fn get(s: &[u8], i: usize) -> Cell
     requires { i < room s.now }
     ensures { (result ≡ get_or (cells s.now) i null) × Sound result }
 {
-    let tag = read32(s, 16 * i);
-    let number = read32(s, 16 * i + 4);
-    let payload = read64(s, 16 * i + 8);
     Cell {
-        tag,
-        number,
-        payload,
+        tag: tag(s, i),
+        number: number(s, i),
+        payload: payload(s, i),
     }
 }
 
@@ -129,12 +119,9 @@ pub fn put(s: &mut [u8], i: usize, c: Cell)
     requires { i < room s.old }
     ensures { Writes s.old (set (cells s.old) i c) s.new }
 {
-    let tag = c.tag;
-    let number = c.number;
-    let payload = c.payload;
-    write32(s, 16 * i, tag);
-    write32(s, 16 * i + 4, number);
-    write64(s, 16 * i + 8, payload);
+    write32(s, 16 * i, c.tag);
+    write32(s, 16 * i + 4, c.number);
+    write64(s, 16 * i + 8, c.payload);
 }
 
 // The number of cell i becomes x.

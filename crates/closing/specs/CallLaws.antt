@@ -1,5 +1,5 @@
 -- Calls and returns: the operands are read off the running frame, and what is planned over what is left of it is what the machine does.
-use Rattle.std.specs.Prelude.{◌≡◌, Bool, not, ℕ, ◌+◌, ◌-◌, ◌*◌, ◌<◌, ◌≤◌, length, get_or, take}
+use Rattle.std.specs.Prelude.{◌≡◌, Bool, not, ℕ, ◌+◌, ◌-◌, ◌*◌, ◌<◌, ◌≤◌, length, get_or, take, Result, Ok, Err}
 use Rattle.std.proofs.Math.Path.{refl, ap, subst}
 use Rattle.std.proofs.Common.{sym, ◌∙◌, arith, length-take-le, lt-ltb, le-ltb}
 use mathlib.Core.List.{List, reverse}
@@ -21,20 +21,22 @@ use Rattle.moves.specs.declared.Running as registers
 use Rattle.plan.specs.Rest.{Held}
 use Rattle.plan.proofs.Appended.{appends_refl}
 use Rattle.plan.specs.Plans.{error_of, Carries}
+use Rattle.plan.specs.declared.Counts.{Counts}
 use Rattle.plan.specs.declared.Error.{Error}
 use Rattle.plan.specs.declared.Plan.{Plan}
 use Rattle.counts.specs.Counted.{Ready}
 use Rattle.calls.specs.Called.{Callable, CallsFunction}
 use Rattle.slices.specs.SlicedLaws.{past_frame}
-use Rattle.acts.specs.Acted.{ActedOn, Overable, ActsOver, Belowable, ActsBelow, Acts, Busy, left_of, Thrown, Failable, Failing, Fails, Opcode}
+use Rattle.acts.specs.Acted.{ActedOn, as_done, as_failed, Overable, ActsOver, Belowable, ActsBelow, Acts, Busy, left_of, Thrown, Failable, Fails, Opcode}
 use Rattle.closing.specs.Closed.{Closable, Closes}
 use Rattle.acts.specs.Operands.{args_are}
+use Rattle.closing.specs.Results.{used_done, used_failed}
 use Rattle.acts.specs.Left.{top_live, top_room}
 use Rattle.acts.specs.Apart.{call_apart, ready_over}
 use Rattle.acts.specs.ActedLaws.{bounded_settled}
 use Rattle.acts.specs.BusyLaws.{acted_acts, ready_under, busy_place, busy_next, busy_stack, busy_value, busy_left, busy_changed, busy_held, busy_gone, busy_held_under, busy_handlers, busy_handlers_under, busy_sizes, busy_small, busy_room, busy_settles, busy_rests}
-use Rattle.acts.specs.declared.Acted.{Acted}
-use Rattle.acts.specs.declared.Acted.TheVariants.{Refused, Done, Failed}
+use Rattle.refusals.specs.declared.Refusal.{Refusal}
+use Rattle.refusals.specs.declared.Refusal.TheVariants.{FewValues}
 
 -- ---- The two calls: 36 keeps its frame, 38 does not
 abbrev pub number_of : Bool → ℕ
@@ -143,7 +145,7 @@ module _ {P : Program} {z : Sizes} {m : M} {g : registers.Running} {u frames : �
 
 -- ---- What the code has in hand
 module _ (keeps : Bool) {P : Program} {frames u : ℕ} {g : registers.Running} {x : ℕ} {state live store starts : List ℕ} where
-  pub call_few : {live₁ : List ℕ} → g.stack ≤ x → Settles g live live₁ → Closes P (number_of keeps) frames u g x (Refused 12) state live store starts state live₁ store starts
+  pub call_few : {live₁ : List ℕ} → g.stack ≤ x → Settles g live live₁ → Closes P (number_of keeps) frames u g x (Err FewValues) state live store starts state live₁ store starts
   unfolding outcome
   call_few le s = record {
     acts = λ z m b o. (ap (λ (t : Taken). outcome P z t m) (next_few b keeps o le), busy_rests live store b s);
@@ -158,15 +160,9 @@ module _ (keeps : Bool) {P : Program} {frames u : ℕ} {g : registers.Running} {
     pub call_ends : end_of g < 18446744073709551616
     call_ends = omega (arith, (top_room live k.busy.inside.runs).0, busy_room live store k.busy)
 
-    pub call_some : 1 ≤ frames
-    call_some = omega (arith, k.busy.count, ap length k.busy.inside.frames)
-
     module _ (lt : x < g.stack) where
       pub call_tops : (x < g.stack) × (end_of g ≤ room live)
       call_tops = (lt, (top_room live k.busy.inside.runs).0)
-
-      pub call_leaves : (x + 1 ≤ g.stack) × (g.place < 4294967296)
-      call_leaves = (omega (arith, lt), omega (arith, busy_place k.busy))
 
       pub call_copies : {e : ℕ} → e ≡ end_of g → (0 + x ≤ room args) × (e - x + x ≤ room live)
       call_copies e = (omega (arith, lt, e, call_tops.1, busy_room live store k.busy, k.values), omega (arith, lt, e, call_tops.1))
@@ -184,10 +180,6 @@ module _ (keeps : Bool) {P : Program} {frames u : ℕ} {g : registers.Running} {
         pub call_given : x ≡ room (take (16 * x) args₁)
         call_given = omega (arith, call_lends)
 
-      module _ {h : registers.Running} (q : h ≡ left_of g (x + 1)) where
-        pub left_ends : end_of h < 18446744073709551616
-        left_ends = omega (arith, ap (λ (r : registers.Running). end_of r) q, lt, call_ends)
-
   -- the function f was read, and asked whether it is one
   module _ (lt : x < g.stack) {f : Cell} (top : ((w : Written) (pre : List Cell) → Top w pre g (cells live) → f ≡ get_or w.stack x null) × Sound f)
       {yes : Bool} (c : (P : Program) (s : List Object) → is_value P s f ≡ true → yes ≡ callable (function_of s f)) where
@@ -202,17 +194,16 @@ module _ (keeps : Bool) {P : Program} {frames u : ℕ} {g : registers.Running} {
         len = k.len;
       }
 
-      pub call_failed : {r : Acted} {state' live' store' starts' : List ℕ} → Fails P frames u g h err r state live store starts state' live' store' starts' → Closes P (number_of keeps) frames u g x r state live store starts state' live' store' starts'
+      pub call_failed : {r : Result Counts Refusal} {state' live' store' starts' : List ℕ} → Fails P frames u g h err r state live store starts state' live' store' starts' → Closes P (number_of keeps) frames u g x (as_failed r) state live store starts state' live' store' starts'
       call_failed {r} {state'} {live'} {store'} {starts'} a = record {
-        acts = λ z m b o. by z m r a.never (a.acts z m b (call_thrown b keeps o lt (top.0 _ _ b.inside.runs) c (not-true yes no) q i j));
+        acts = λ z m b o. by z m r (a.acts z m b (call_thrown b keeps o lt (top.0 _ _ b.inside.runs) c (not-true yes no) q i j));
         bounded = a.bounded;
-        appends = a.appends;
+        appends = used_failed r a.appends;
       }
         where
-          by : (z : Sizes) (m : M) (r : Acted) → Failing r → Acts P z m failing r (cells state') (cells live') (cells store') starts' → Acts P z m closing r (cells state') (cells live') (cells store') starts'
-          by z m (Refused n) v y = y
-          by z m (Done d) v y = absurd v
-          by z m (Failed d) v y = y
+          by : (z : Sizes) (m : M) (r : Result Counts Refusal) → Acts P z m failing (as_failed r) (cells state') (cells live') (cells store') starts' → Acts P z m closing (as_failed r) (cells state') (cells live') (cells store') starts'
+          by z m (Err n) y = y
+          by z m (Ok d) y = y
 
 -- at most the cells of memory
 args_few : {P : Program} {z : Sizes} {m : M} {g : registers.Running} {u frames x : ℕ} {B L S l : List Cell} {starts : List ℕ} (b : Busy P z m g u frames B L S starts) → x < g.stack → l ≡ reverse (take x b.frame.stack) → length l < 4294967296
@@ -262,8 +253,8 @@ module _ {P : Program} {frames u : ℕ} {g : registers.Running} {x : ℕ} {state
             len = k.len;
           }
 
-      pub call_closes : {r : Acted} {state' live' store' starts' : List ℕ} → ActsOver plan (cells (take (16 * x) args₁)) (record { frames = frames; live = e; store = u }) g h r state live store starts state' live' store' starts'
-          → Closes P 36 frames u g x r state live store starts state' live' store' starts'
+      pub call_closes : {r : Result Counts Refusal} {state' live' store' starts' : List ℕ} → ActsOver plan (cells (take (16 * x) args₁)) (record { frames = frames; live = e; store = u }) g h r state live store starts state' live' store' starts'
+          → Closes P 36 frames u g x (as_done r) state live store starts state' live' store' starts'
       unfolding doing pace_of handlers_left
       call_closes {r} {state'} {live'} {store'} {starts'} a = record {
         acts = λ z m b o.
@@ -277,7 +268,7 @@ module _ {P : Program} {frames u : ℕ} {g : registers.Running} {x : ℕ} {state
             acted_acts P z m (cells state') (cells live') (cells store') starts' r (next_calls b true o lt is c (not-false yes yep) (args_are live x b.inside.runs (omega (arith, lt)) en wr)) refl
             (busy_handlers b b.frame.handle (b.frame.place + 1) b.frame.locals (drop (x + 1) b.frame.stack)) v;
         bounded = a.bounded;
-        appends = a.appends;
+        appends = used_done r a.appends;
       }
 
   -- ---- 38: over the frames below
@@ -317,8 +308,8 @@ module _ {P : Program} {frames u : ℕ} {g : registers.Running} {x : ℕ} {state
           len = k.len;
         }
 
-    pub tail_closes : {r : Acted} {state' live' store' starts' : List ℕ} → ActsBelow plan (cells (take (16 * x) args₁)) (record { frames = frames - 1; live = g.base; store = u }) g r state live store starts state' live' store' starts'
-        → Closes P 38 frames u g x r state live store starts state' live' store' starts'
+    pub tail_closes : {r : Result Counts Refusal} {state' live' store' starts' : List ℕ} → ActsBelow plan (cells (take (16 * x) args₁)) (record { frames = frames - 1; live = g.base; store = u }) g r state live store starts state' live' store' starts'
+        → Closes P 38 frames u g x (as_done r) state live store starts state' live' store' starts'
     unfolding doing pace_of handlers_left
     tail_closes {r} {state'} {live'} {store'} {starts'} a = record {
       acts = λ z m b o.
@@ -330,5 +321,5 @@ module _ {P : Program} {frames u : ℕ} {g : registers.Running} {x : ℕ} {state
           let v = subst (λ (s : Sizes). ActedOn s m m' r (cells state') (cells live') (cells store') starts') (sym (busy_sizes live store b)) y in
           acted_acts P z m (cells state') (cells live') (cells store') starts' r (next_calls b false o lt is c (not-false yes yep) (args_are live x b.inside.runs (omega (arith, lt)) en wr)) refl (busy_handlers_under b) v;
       bounded = a.bounded;
-      appends = a.appends;
+      appends = used_done r a.appends;
     }

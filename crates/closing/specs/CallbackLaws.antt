@@ -1,5 +1,5 @@
 -- An effect called as a function: its frame is gone, and the effect is performed with what was on its stack.
-use Rattle.std.specs.Prelude.{◌≡◌, ℕ, ◌+◌, ◌-◌, ◌*◌, ◌<◌, ◌≤◌, take, drop}
+use Rattle.std.specs.Prelude.{◌≡◌, ℕ, ◌+◌, ◌-◌, ◌*◌, ◌<◌, ◌≤◌, take, drop, None, Result}
 use Rattle.std.proofs.Math.Path.{refl, sym, ap, subst}
 use Rattle.std.proofs.Common.{◌∙◌, arith, get_or-append-add, take_all, length-take-le}
 use mathlib.Core.List.{List, ◌∷◌, ◌++◌, reverse}
@@ -23,13 +23,13 @@ use Rattle.plan.specs.Searches.{Lies}
 use Rattle.plan.specs.declared.Counts.{Counts}
 use Rattle.plan.specs.declared.Plan.{Plan}
 use Rattle.calls.specs.Called.{Performs}
-use Rattle.calls.specs.declared.Cause.TheVariants.{Performed}
-use Rattle.acts.specs.Acted.{rooms_of, Gone, ActedOn, Belowable, ActsBelow, Resting}
+use Rattle.acts.specs.Acted.{rooms_of, as_done, Gone, ActedOn, Belowable, ActsBelow, Resting}
 use Rattle.closing.specs.Closed.{Callback, Callbackable, PerformsCallback}
+use Rattle.closing.specs.Results.{used_done}
 use Rattle.acts.specs.Left.{lower_under, top_live, top_room, held_under}
 use Rattle.acts.specs.BusyLaws.{acted_acts, ready_under}
 use Rattle.acts.specs.Operands.{args_are}
-use Rattle.acts.specs.declared.Acted.{Acted}
+use Rattle.refusals.specs.declared.Refusal.{Refusal}
 
 -- the second cell of a frame
 top_subject : {w : Written} {pre : List Cell} {g : Running} {L : List Cell} → Top w pre g L → get_or L (g.base + 1) null ≡ w.subject
@@ -81,7 +81,7 @@ module _ {P : Program} {z : Sizes} {m : M} {c : Counts} {B L S : List Cell} {sta
     back_effect i = i ∙ ap (λ (n : ℕ). get_or L (n + 1) null) back_base ∙ top_subject back_top
 
     -- what is performed with the arguments of the stack
-    back_carries : {e : Cell} {args : List Cell} {plan : Plan} → e ≡ k.effect → args ≡ reverse k.stack → Performs P (c.frames - 1) 1 e g.stack Performed L starts plan
+    back_carries : {e : Cell} {args : List Cell} {plan : Plan} → e ≡ k.effect → args ≡ reverse k.stack → Performs P (c.frames - 1) 1 e g.stack None L starts plan
         → Carries P plan args (with_frames k.below m) (perform_effect P e args (with_frames k.below m))
     unfolding perform_effect
     back_carries {e} {args} i j w =
@@ -96,18 +96,8 @@ copied live y k {g} q en wr =
 
 module _ {P : Program} {c : Counts} {state live store starts args : List ℕ} where
   module _ (x : Callbackable P c state live store starts args) where
-    pub back_some : 1 ≤ c.frames
-    back_some = omega (arith, rest_count x.resting x.callback)
-
     pub back_table : c.frames - 1 < length starts
     back_table = omega (arith, rest_count x.resting x.callback, ap length x.callback.frames, x.resting.fits.few, x.resting.table)
-
-    -- the numbers that the table is read with
-    pub back_numbers : ((c.frames - 1) * 4 < 18446744073709551616) × (get_or starts (c.frames - 1) 0 + 1 < 18446744073709551616)
-    back_numbers = (
-      omega (arith, back_table, x.resting.table),
-      omega (arith, (top_room live (rest_top x.resting x.callback)).1, length_cells live, x.resting.room, x.resting.small),
-    )
 
     pub back_opens : get_or starts (c.frames - 1) 0 + 6 ≤ room live
     back_opens = (top_room live (rest_top x.resting x.callback)).1
@@ -151,7 +141,7 @@ module _ {P : Program} {c : Counts} {state live store starts args : List ℕ} wh
 
   module _ {g : Running} (q : (g ≡ opened (cells live) (get_or starts (c.frames - 1) 0)) × (g.place < 4294967296)) {args₁ : List ℕ} {end : ℕ} {e : Cell} {plan : Plan} (en : end ≡ end_of g)
       (wr : Writes args (paste (cells args) 0 (drop (end - g.stack) (cells live)) g.stack) args₁) (ef : (e ≡ get_or (cells live) (get_or starts (c.frames - 1) 0 + 1) null) × Sound e)
-      (w : Performs P (c.frames - 1) 1 e g.stack Performed (cells live) starts plan) where
+      (w : Performs P (c.frames - 1) 1 e g.stack None (cells live) starts plan) where
     pub back_below : Callbackable P c state live store starts args → Belowable plan (cells (take (16 * g.stack) args₁)) (record { frames = c.frames - 1; live = get_or starts (c.frames - 1) 0; store = c.store }) g state live store starts
     back_below x =
         let r = x.resting in
@@ -181,9 +171,9 @@ module _ {P : Program} {c : Counts} {state live store starts args : List ℕ} wh
           len = x.len;
         }
 
-    pub back_performs : {r : Acted} {state' live' store' starts' : List ℕ}
+    pub back_performs : {r : Result Counts Refusal} {state' live' store' starts' : List ℕ}
         → ActsBelow plan (cells (take (16 * g.stack) args₁)) (record { frames = c.frames - 1; live = get_or starts (c.frames - 1) 0; store = c.store }) g r state live store starts state' live' store' starts'
-        → PerformsCallback P c r state live store starts state' live' store' starts'
+        → PerformsCallback P c (as_done r) state live store starts state' live' store' starts'
     unfolding doing pace_of handlers_left next_action
     back_performs {r} {state'} {live'} {store'} {starts'} a = record {
       acts = λ z m y k.
@@ -198,5 +188,5 @@ module _ {P : Program} {c : Counts} {state live store starts args : List ℕ} wh
           let v = subst (λ (i : Sizes). ActedOn i m m' r (cells state') (cells live') (cells store') starts') (sym s) h in
           acted_acts P z m (cells state') (cells live') (cells store') starts' r n refl (omega arith) v;
       bounded = a.bounded;
-      appends = a.appends;
+      appends = used_done r a.appends;
     }

@@ -1,5 +1,5 @@
 -- The opcode that closes a slice, by its kind.
-use Rattle.std.specs.Prelude.{◌≡◌, List, ℕ}
+use Rattle.std.specs.Prelude.{◌≡◌, List, ℕ, Result}
 use Rattle.std.proofs.Common.{sym}
 use Rattle.std.proofs.Math.Path.{subst}
 use Rattle.machine.specs.Values.{Program}
@@ -7,6 +7,7 @@ use Rattle.moves.specs.declared.Running as registers
 use Rattle.steps.specs.declared.Closing.{Closing}
 use Rattle.steps.specs.declared.Closing.TheVariants.{Call, Return, ReturnCall}
 use Rattle.closing.specs.Closed.{closing_number, Closable, Closes}
+use Rattle.refusals.specs.declared.Refusal.{Refusal}
 use Rattle.acts.specs.declared.Acted.{Acted}
 
 module _ {P : Program} {frames u : ℕ} {g : registers.Running} {x : ℕ} {state live store starts : List ℕ} {k : Closing} where
@@ -19,7 +20,7 @@ module _ {P : Program} {frames u : ℕ} {g : registers.Running} {x : ℕ} {state
     unfolding closing_number
     closable_tail e c = subst (λ (j : Closing). Closable P (closing_number j) frames u g x state live store starts args) e c
 
-  module _ {r : Acted} {state' live' store' starts' : List ℕ} where
+  module _ {r : Result Acted Refusal} {state' live' store' starts' : List ℕ} where
     pub closes_call : k ≡ Call → Closes P 36 frames u g x r state live store starts state' live' store' starts' → Closes P (closing_number k) frames u g x r state live store starts state' live' store' starts'
     unfolding closing_number
     closes_call e c = subst (λ (j : Closing). Closes P (closing_number j) frames u g x r state live store starts state' live' store' starts') (sym e) c

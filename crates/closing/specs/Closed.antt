@@ -1,5 +1,5 @@
 -- What closes a slice, in memory: a call, a return, and the effect callback, which stands alone.
-use Rattle.std.specs.Prelude.{◌≡◌, List, ◌∷◌, ℕ, ◌≤◌, length}
+use Rattle.std.specs.Prelude.{◌≡◌, List, ◌∷◌, ℕ, ◌≤◌, length, Result}
 use Rattle.cells.specs.Cells.{cells}
 use Rattle.cells.specs.declared.Cell.{Cell}
 use Rattle.machine.specs.Values.{Program}
@@ -10,6 +10,7 @@ use Rattle.plan.specs.Rest.{Appends}
 use Rattle.plan.specs.declared.Counts.{Counts}
 use Rattle.steps.specs.declared.Closing as c
 use Rattle.steps.specs.declared.Closing.TheVariants.{Call, Return, ReturnCall}
+use Rattle.refusals.specs.declared.Refusal.{Refusal}
 use Rattle.acts.specs.declared.Acted.{Acted}
 use Rattle.acts.specs.Acted.{Acts, Bounded, used_then, Busy, Opcode, Resting}
 
@@ -34,7 +35,7 @@ pub record Returnable (frames u : ℕ) (g : registers.Running) (state live store
   pub busy : Busy program sizes machine g u frames (cells state) (cells live) (cells store) starts
   pub len : length state ≡ 8256
 
-pub record Closes (P : Program) (op frames u : ℕ) (g : registers.Running) (x : ℕ) (r : Acted) (state live store starts state' live' store' starts' : List ℕ) : Type 0 where
+pub record Closes (P : Program) (op frames u : ℕ) (g : registers.Running) (x : ℕ) (r : Result Acted Refusal) (state live store starts state' live' store' starts' : List ℕ) : Type 0 where
   pub acts : (z : Sizes) (m : M) (b : Busy P z m g u frames (cells state) (cells live) (cells store) starts) → Opcode b.frame b.inside.place op x
       → Acts P z m closing r (cells state') (cells live') (cells store') starts'
   pub bounded : Bounded state live store starts state' live' store' starts'
@@ -58,7 +59,7 @@ pub record Callbackable (P : Program) (c : Counts) (state live store starts args
   pub len : length state ≡ 8256
   pub values : 65536 ≤ length args
 
-pub record PerformsCallback (P : Program) (c : Counts) (r : Acted) (state live store starts state' live' store' starts' : List ℕ) : Type 0 where
+pub record PerformsCallback (P : Program) (c : Counts) (r : Result Acted Refusal) (state live store starts state' live' store' starts' : List ℕ) : Type 0 where
   pub acts : (z : Sizes) (m : M) → Resting P z m c (cells state) (cells live) (cells store) starts → Callback m → Acts P z m alone r (cells state') (cells live') (cells store') starts'
   pub bounded : Bounded state live store starts state' live' store' starts'
   pub appends : Appends c.store (used_then c.store r) store store'

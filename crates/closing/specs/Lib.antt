@@ -1,5 +1,6 @@
 -- What closes a slice.
 pub mod Closed
+pub mod Results
 pub mod CallLaws
 pub mod ReturnLaws
 pub mod CallbackLaws

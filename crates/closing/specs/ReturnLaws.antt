@@ -1,5 +1,5 @@
 -- A return: the top value goes to the frame below, or to the host.
-use Rattle.std.specs.Prelude.{◌≡◌, List, [], ◌∷◌, ℕ, ◌+◌, ◌-◌, ◌<◌, ◌≤◌, length, get_or}
+use Rattle.std.specs.Prelude.{◌≡◌, List, [], ◌∷◌, ℕ, ◌+◌, ◌-◌, ◌<◌, ◌≤◌, length, get_or, Result, Err}
 use Rattle.std.proofs.Math.Path.{refl, ap, subst}
 use Rattle.std.proofs.Common.{sym, ◌∙◌, arith}
 use Rattle.cells.specs.Cells.{null, room, cells, Sound}
@@ -15,15 +15,17 @@ use Rattle.moves.specs.Runs.{Top, end_of, Settles}
 use Rattle.moves.specs.declared.Running as registers
 use Rattle.plan.proofs.Appended.{appends_refl}
 use Rattle.plan.specs.Plans.{Carries}
+use Rattle.plan.specs.declared.Counts.{Counts}
 use Rattle.plan.specs.declared.Plan.{Plan}
 use Rattle.calls.specs.Called.{ReturnsValue}
-use Rattle.acts.specs.Acted.{ActedOn, Belowable, ActsBelow, Busy}
+use Rattle.acts.specs.Acted.{ActedOn, as_done, Belowable, ActsBelow, Busy}
 use Rattle.closing.specs.Closed.{Returnable, Closes}
+use Rattle.closing.specs.Results.{used_done}
 use Rattle.acts.specs.Left.{top_live, top_room}
 use Rattle.acts.specs.ActedLaws.{some, bounded_settled}
 use Rattle.acts.specs.BusyLaws.{acted_acts, ready_under, busy_place, busy_next, busy_stack, busy_gone, busy_held_under, busy_sizes, busy_small, busy_settles, busy_rests}
-use Rattle.acts.specs.declared.Acted.{Acted}
-use Rattle.acts.specs.declared.Acted.TheVariants.{Refused}
+use Rattle.refusals.specs.declared.Refusal.{Refusal}
+use Rattle.refusals.specs.declared.Refusal.TheVariants.{FewValues}
 
 return_is : (P : Program) (m : M) (r : Running) (x : ℕ) → opcode_action P m r 37 x ≡ with_top r.stack (λ (v : Cell) (st : List Cell). returns v r.below)
 unfolding opcode_action both
@@ -44,7 +46,7 @@ return_carries : {frames u : ℕ} {g : registers.Running} {v : Cell} {plan : Pla
 return_carries {P = P} {m = m} w b args = w.carries P (with_frames b.frame.below m) args (omega (arith, b.count, ap length b.inside.frames))
 
 module _ {frames u : ℕ} {g : registers.Running} {state live store starts : List ℕ} where
-  pub return_few : {live₁ : List ℕ} → g.stack ≡ 0 → Settles g live live₁ → (P : Program) (x : ℕ) → Closes P 37 frames u g x (Refused 12) state live store starts state live₁ store starts
+  pub return_few : {live₁ : List ℕ} → g.stack ≡ 0 → Settles g live live₁ → (P : Program) (x : ℕ) → Closes P 37 frames u g x (Err FewValues) state live store starts state live₁ store starts
   unfolding outcome
   return_few e s P x = record {
     acts = λ z m b o.
@@ -57,9 +59,6 @@ module _ {frames u : ℕ} {g : registers.Running} {state live store starts : Lis
   module _ (k : Returnable frames u g state live store starts) where
     pub return_settles : (g.base + 6 ≤ room live) × (g.place < 4294967296)
     return_settles = busy_settles live store k.busy
-
-    pub return_some : 1 ≤ frames
-    return_some = omega (arith, k.busy.count, ap length k.busy.inside.frames)
 
     pub return_tops : (g.stack ≡ 0 → ⊥) → (0 < g.stack) × (end_of g ≤ room live)
     return_tops h = (some g.stack h, (top_room live k.busy.inside.runs).0)
@@ -84,8 +83,8 @@ module _ {frames u : ℕ} {g : registers.Running} {state live store starts : Lis
           len = k.len;
         }
 
-    pub return_closes : {args : List Cell} {r : Acted} {state' live' store' starts' : List ℕ} → ((w : Written) (pre : List Cell) → Top w pre g (cells live) → v ≡ get_or w.stack 0 null) × Sound v → (g.stack ≡ 0 → ⊥)
-        → ActsBelow plan args (record { frames = frames - 1; live = g.base; store = u }) g r state live store starts state' live' store' starts' → (P : Program) (x : ℕ) → Closes P 37 frames u g x r state live store starts state' live' store' starts'
+    pub return_closes : {args : List Cell} {r : Result Counts Refusal} {state' live' store' starts' : List ℕ} → ((w : Written) (pre : List Cell) → Top w pre g (cells live) → v ≡ get_or w.stack 0 null) × Sound v → (g.stack ≡ 0 → ⊥)
+        → ActsBelow plan args (record { frames = frames - 1; live = g.base; store = u }) g r state live store starts state' live' store' starts' → (P : Program) (x : ℕ) → Closes P 37 frames u g x (as_done r) state live store starts state' live' store' starts'
     unfolding doing pace_of handlers_left
     return_closes {args} {r} {state'} {live'} {store'} {starts'} top ne a P x = record {
       acts = λ z m b o.
@@ -97,5 +96,5 @@ module _ {frames u : ℕ} {g : registers.Running} {state live store starts : Lis
           let q = subst (λ (s : Sizes). ActedOn s m m' r (cells state') (cells live') (cells store') starts') (sym (busy_sizes live store b)) y in
           acted_acts P z m (cells state') (cells live') (cells store') starts' r n refl (omega arith) q;
       bounded = a.bounded;
-      appends = a.appends;
+      appends = used_done r a.appends;
     }

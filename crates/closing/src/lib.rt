@@ -3,22 +3,18 @@
 
 ghost use Rattle.std.specs.Prelude.{ℕ};
 ghost use Rattle.machine.specs.Values.{Program};
-ghost use Rattle.scan.specs.Tables.{program_in};
+ghost use Rattle.scan.specs.Tables.{program_of};
 ghost use Rattle.closing.specs.Closed.{closing_number, Closable, Returnable, Closes, Callbackable, PerformsCallback};
 
 use acts::Acted;
-use calls::{Beginning, Cause};
 use moves::Running;
 use plan::Counts;
+use refusals::Refusal;
 use steps::Closing;
 
 // 36 `Call`: function and arguments are popped, and the frame stays under the new one.
 fn call(
-    image: &[u8],
-    rows: &[u32],
-    constants: &[u32],
-    inner: &[u32],
-    codes: usize,
+    program: &lookups::Program,
     state: &mut [u8],
     live: &mut [u8],
     store: &mut [u8],
@@ -28,34 +24,23 @@ fn call(
     used: usize,
     g: Running,
     x: u32,
-) -> Acted
-    requires { Closable (program_in image.now rows.now constants.now inner.now codes) 36 frames used g x state.old live.old store.old starts.old args.old }
-    ensures { Closes (program_in image.now rows.now constants.now inner.now codes) 36 frames used g x result state.old live.old store.old starts.old state.new live.new store.new starts.new }
+) -> Result<Acted, Refusal>
+    requires { Closable (program_of program.now) 36 frames used g x state.old live.old store.old starts.old args.old }
+    ensures { Closes (program_of program.now) 36 frames used g x result state.old live.old store.old starts.old state.new live.new store.new starts.new }
 {
     let n = x as usize;
     if n >= g.stack {
         moves::settle(live, g);
-        return Acted::Refused(12);
+        return Err(Refusal::FewValues);
     }
     let f = moves::top(live, g, n);
     let left = acts::left_of(g, n + 1);
     if !calls::callable(f) {
-        return acts::fail(
-            image,
-            rows,
-            constants,
-            inner,
-            codes,
-            state,
-            live,
-            store,
-            starts,
-            frames,
-            used,
-            g,
-            left,
-            values::meta_un_operator(0, values::type_of(f)),
+        let error = values::meta_un_operator(0, values::type_of(f));
+        let failed = acts::fail(
+            program, state, live, store, starts, frames, used, g, left, error,
         );
+        return failed.map(Acted::Failed);
     }
     blocks::copy(args, 0, live, moves::end(g) - n, n);
     let given = &args[..16 * n];
@@ -64,24 +49,19 @@ fn call(
         live: moves::end(left),
         store: used,
     };
-    if let Beginning::Frame(k, p) = calls::frame_of(
-        image, rows, constants, inner, codes, live, store, starts, frames, f, n,
-    ) {
-        return acts::start(k, p, given, state, live, store, starts, c, g, left);
+    if let Some(b) = calls::frame_of(program, live, store, starts, frames, f, n) {
+        return acts::start(
+            b.start, b.params, given, state, live, store, starts, c, g, left,
+        )
+        .map(Acted::Done);
     }
-    let plan = calls::call_function(
-        image, rows, constants, inner, codes, live, store, starts, frames, f, given,
-    );
-    acts::over(plan, given, state, live, store, starts, c, g, left)
+    let plan = calls::call_function(program, live, store, starts, frames, f, given);
+    acts::over(plan, given, state, live, store, starts, c, g, left).map(Acted::Done)
 }
 
 // 38 `ReturnCall`: the frame is gone before the call.
 fn tail_call(
-    image: &[u8],
-    rows: &[u32],
-    constants: &[u32],
-    inner: &[u32],
-    codes: usize,
+    program: &lookups::Program,
     state: &mut [u8],
     live: &mut [u8],
     store: &mut [u8],
@@ -91,46 +71,34 @@ fn tail_call(
     used: usize,
     g: Running,
     x: u32,
-) -> Acted
-    requires { Closable (program_in image.now rows.now constants.now inner.now codes) 38 frames used g x state.old live.old store.old starts.old args.old }
-    ensures { Closes (program_in image.now rows.now constants.now inner.now codes) 38 frames used g x result state.old live.old store.old starts.old state.new live.new store.new starts.new }
+) -> Result<Acted, Refusal>
+    requires { Closable (program_of program.now) 38 frames used g x state.old live.old store.old starts.old args.old }
+    ensures { Closes (program_of program.now) 38 frames used g x result state.old live.old store.old starts.old state.new live.new store.new starts.new }
 {
     let n = x as usize;
     if n >= g.stack {
         moves::settle(live, g);
-        return Acted::Refused(12);
+        return Err(Refusal::FewValues);
     }
     let f = moves::top(live, g, n);
     if !calls::callable(f) {
-        return acts::fail(
-            image,
-            rows,
-            constants,
-            inner,
-            codes,
-            state,
-            live,
-            store,
-            starts,
-            frames,
-            used,
-            g,
-            acts::left_of(g, n + 1),
-            values::meta_un_operator(0, values::type_of(f)),
+        let left = acts::left_of(g, n + 1);
+        let error = values::meta_un_operator(0, values::type_of(f));
+        let thrown = acts::fail(
+            program, state, live, store, starts, frames, used, g, left, error,
         );
+        return thrown.map(Acted::Failed);
     }
     blocks::copy(args, 0, live, moves::end(g) - n, n);
     let given = &args[..16 * n];
     let under = frames - 1;
-    let plan = calls::call_function(
-        image, rows, constants, inner, codes, live, store, starts, under, f, given,
-    );
+    let plan = calls::call_function(program, live, store, starts, under, f, given);
     let c = Counts {
         frames: under,
         live: g.base,
         store: used,
     };
-    acts::below(plan, given, state, live, store, starts, c, g)
+    acts::below(plan, given, state, live, store, starts, c, g).map(Acted::Done)
 }
 
 // 37 `Return`.
@@ -142,13 +110,13 @@ fn return_top(
     frames: usize,
     used: usize,
     g: Running,
-) -> Acted
+) -> Result<Acted, Refusal>
     requires { Returnable frames used g state.old live.old store.old starts.old }
     ensures { (P : Program) (x : ℕ) → Closes P 37 frames used g x result state.old live.old store.old starts.old state.new live.new store.new starts.new }
 {
     if g.stack == 0 {
         moves::settle(live, g);
-        return Acted::Refused(12);
+        return Err(Refusal::FewValues);
     }
     let under = frames - 1;
     let v = moves::top(live, g, 0);
@@ -158,29 +126,17 @@ fn return_top(
         store: used,
     };
     if under != 0 {
-        return acts::receive(v, state, live, store, starts, c, g);
+        return acts::receive(v, state, live, store, starts, c, g).map(Acted::Done);
     }
     let none = [0u8; 16];
-    acts::below(
-        calls::return_value(under, v),
-        &none[..0],
-        state,
-        live,
-        store,
-        starts,
-        c,
-        g,
-    )
+    let plan = calls::return_value(under, v);
+    acts::below(plan, &none[..0], state, live, store, starts, c, g).map(Acted::Done)
 }
 
 // An opcode that closes its slice.
 pub fn close(
     k: Closing,
-    image: &[u8],
-    rows: &[u32],
-    constants: &[u32],
-    inner: &[u32],
-    codes: usize,
+    program: &lookups::Program,
     state: &mut [u8],
     live: &mut [u8],
     store: &mut [u8],
@@ -190,39 +146,33 @@ pub fn close(
     used: usize,
     g: Running,
     x: u32,
-) -> Acted
-    requires { Closable (program_in image.now rows.now constants.now inner.now codes) (closing_number k) frames used g x state.old live.old store.old starts.old args.old }
-    ensures { Closes (program_in image.now rows.now constants.now inner.now codes) (closing_number k) frames used g x result state.old live.old store.old starts.old state.new live.new store.new starts.new }
+) -> Result<Acted, Refusal>
+    requires { Closable (program_of program.now) (closing_number k) frames used g x state.old live.old store.old starts.old args.old }
+    ensures { Closes (program_of program.now) (closing_number k) frames used g x result state.old live.old store.old starts.old state.new live.new store.new starts.new }
 {
     match k {
         Closing::Call => call(
-            image, rows, constants, inner, codes, state, live, store, starts, args, frames, used,
-            g, x,
+            program, state, live, store, starts, args, frames, used, g, x,
         ),
         Closing::Return => return_top(state, live, store, starts, frames, used, g),
         Closing::ReturnCall => tail_call(
-            image, rows, constants, inner, codes, state, live, store, starts, args, frames, used,
-            g, x,
+            program, state, live, store, starts, args, frames, used, g, x,
         ),
     }
 }
 
 // An effect called as a function: its frame at `base` is gone, and the effect is performed with what was on its stack.
 pub fn effect_callback(
-    image: &[u8],
-    rows: &[u32],
-    constants: &[u32],
-    inner: &[u32],
-    codes: usize,
+    program: &lookups::Program,
     state: &mut [u8],
     live: &mut [u8],
     store: &mut [u8],
     starts: &mut [u32],
     args: &mut [u8],
     c: Counts,
-) -> Acted
-    requires { Callbackable (program_in image.now rows.now constants.now inner.now codes) c state.old live.old store.old starts.old args.old }
-    ensures { PerformsCallback (program_in image.now rows.now constants.now inner.now codes) c result state.old live.old store.old starts.old state.new live.new store.new starts.new }
+) -> Result<Acted, Refusal>
+    requires { Callbackable (program_of program.now) c state.old live.old store.old starts.old args.old }
+    ensures { PerformsCallback (program_of program.now) c result state.old live.old store.old starts.old state.new live.new store.new starts.new }
 {
     let under = c.frames - 1;
     let base = starts[under] as usize;
@@ -230,23 +180,19 @@ pub fn effect_callback(
     let n = g.stack;
     blocks::copy(args, 0, live, moves::end(g) - n, n);
     let plan = calls::perform_effect_with(
-        image,
-        rows,
-        constants,
-        inner,
-        codes,
+        program,
         live,
         starts,
         under,
         1,
         cells::get(live, base + 1),
         n,
-        Cause::Performed,
+        None,
     );
     let left = Counts {
         frames: under,
         live: base,
         store: c.store,
     };
-    acts::below(plan, &args[..16 * n], state, live, store, starts, left, g)
+    acts::below(plan, &args[..16 * n], state, live, store, starts, left, g).map(Acted::Done)
 }

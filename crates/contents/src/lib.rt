@@ -30,20 +30,11 @@ pub fn effect_name(body: &[u8]) -> &[u8]
 }
 
 // Are two texts the same, byte for byte?
+#[tactic(auto, using(program::specs::Effects::same_is))]
 pub fn same(a: &[u8], b: &[u8]) -> bool
     ensures { result ≡ same a.now b.now }
 {
-    if a.len() != b.len() {
-        return false;
-    }
-    let mut i: usize = 0;
-    while i < a.len() {
-        if a[i] != b[i] {
-            return false;
-        }
-        i += 1;
-    }
-    true
+    a == b
 }
 
 // Are two effects, by their bodies, equal?

@@ -11,7 +11,7 @@ use Rattle.cells.specs.Cells.{null}
 use Rattle.cells.specs.declared.Cell.{Cell}
 use Rattle.image.specs.Records.{if?}
 use Rattle.machine.specs.Values.{Program, cell, continuation_at}
-use Rattle.machine.specs.Machine.{Frame, lucia, host, effect_callback, Object, list, continuation, Result, running, M, frame_cost, frames_cost, cost, used, result_cost, with_frames, with_result, here, object_at, parse, enter, give, put_back, receive}
+use Rattle.machine.specs.Machine.{Frame, lucia, host, effect_callback, Object, list, continuation, Result, M, frame_cost, frames_cost, cost, used, result_cost, with_frames, with_result, here, object_at, parse, enter, give, put_back, receive}
 use Rattle.machine.proofs.Store.{used_append}
 use Rattle.machine.proofs.FormRules.{object_at_lem}
 use Rattle.memory.specs.Layout.{Written, written, frame_cells, flat, object_cells}

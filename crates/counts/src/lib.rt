@@ -8,9 +8,11 @@ ghost use Rattle.machine.specs.Values.{Program};
 ghost use Rattle.machine.specs.Machine.{M};
 ghost use Rattle.plan.specs.Rest.{counts_of, Held};
 ghost use Rattle.plan.specs.Plans.{taken_count, listed_cells, Enough, Carries};
+ghost use Rattle.refusals.specs.Refusals.{number_of};
 ghost use Rattle.counts.specs.Counted.{refusal_by, Ready, Countable, started_counts, resumed_counts, handled_counts, received_counts, Resumable, Handleable, Receivable};
 
 use plan::{Counts, Params, Plan};
+use refusals::Refusal;
 
 // How many values n arguments are once they are parsed.
 fn parsed(p: Params, n: usize) -> usize
@@ -128,18 +130,18 @@ pub fn counts_after(
     }
 }
 
-// "Then 13, 14, 15"; 0 if there is room.
-pub fn refusal(c: Counts, live: usize, store: usize) -> u32
-    ensures { result ≡ refusal_by (record { live = live; store = store }) c }
+// Is there room for so much? "Then 13, 14, 15."
+pub fn check(c: Counts, live: usize, store: usize) -> Result<(), Refusal>
+    ensures { number_of result ≡ refusal_by (record { live = live; store = store }) c }
 {
     if c.frames > 256 {
-        return 13;
+        return Err(Refusal::ManyFrames);
     }
     if c.live > live {
-        return 14;
+        return Err(Refusal::LiveFull);
     }
     if c.store > store {
-        return 15;
+        return Err(Refusal::StoreFull);
     }
-    0
+    Ok(())
 }

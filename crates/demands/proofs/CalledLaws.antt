@@ -1,5 +1,5 @@
 -- What the contracts allow is what is claimed of each call, and the next call finds the world that the machine's definition leaves.
-use Rattle.std.specs.Prelude.{◌≡◌, ◌⊎◌, Bool, true, false, ℕ, ◌+◌, ◌/◌, ◌≤◌, min, pos, take, ltb}
+use Rattle.std.specs.Prelude.{◌≡◌, ◌⊎◌, Result, Ok, Err, Bool, true, false, ℕ, ◌+◌, ◌/◌, ◌≤◌, min, pos, take, ltb}
 use Rattle.std.proofs.Math.Path.{refl, sym, ap}
 use Rattle.std.proofs.Common.{◌∙◌, inl, inr, ⊎_elim, arith, length-take, eq-eqb}
 use mathlib.Core.List.{List, []}
@@ -12,8 +12,8 @@ use Rattle.fuel.specs.Fuels.{consume, should_continue}
 use Rattle.fuel.specs.Loans.{read, write}
 use Rattle.fuel.specs.LoanLaws.{write_read}
 use Rattle.fuel.specs.declared.Fuel.{Fuel}
-use Rattle.fuel.specs.declared.Loan.{Loan}
-use Rattle.fuel.specs.declared.Loan.TheVariants.{Held, Refused}
+use Rattle.refusals.specs.declared.Refusal.{Refusal as Refused}
+use Rattle.refusals.specs.Refusals.{number}
 use Rattle.image.specs.Records.{if?, Answer, refused, accepted}
 use Rattle.image.specs.Image.{parse}
 use Rattle.image.proofs.Accepted.{accepted_fine}
@@ -335,17 +335,17 @@ module _ {image : List ℕ} {P : Program} (parsed : parse P.image ≡ accepted P
       unfolding call_for refusal_of answer_by with_fuel
       answer_called a = by (read fuel) a.does
         where
-          by : (l : Loan)
+          by : (l : Result Fuel Refused)
               → AnswerBy (sizes m) answer_sent (fueled l (entered image m)) r.0
               m.state m.live m.store fuel n.state n.live n.store r.1
               → Called image P w answer_call (with_loan (sending w answer_sent) l) m r n
-          by (Held f) a = answer_does f (rw found at a)
-          by (Refused k) a = none answer_call k r n (λ j. (a.0 j, a.4 j)) (a.1, a.2, a.3)
+          by (Ok f) a = answer_does f (rw found at a)
+          by (Err k) a = none answer_call (number k) r n (λ j. (a.0 j, a.4 j)) (a.1, a.2, a.3)
 
     -- ---- A run
     module _ (fuel : List ℕ) (ticks : ℕ) (r : Ran × List ℕ) (n : Memory) where
       -- where the loan holds fuel
-      run_does : (f : Fuel) → read fuel ≡ Held f
+      run_does : (f : Fuel) → read fuel ≡ Ok f
           → RunDone (goes_as (runs ticks f)) w.wait r.0
           m.state m.live m.store fuel n.state n.live n.store r.1
           → Called image P w (lucia_run fuel ticks) (accepted (runs ticks f)) m r n
@@ -366,12 +366,12 @@ module _ {image : List ℕ} {P : Program} (parsed : parse P.image ≡ accepted P
       unfolding call_for refusal_of answer_by with_fuel
       run_called a = by (read fuel) refl a.does
         where
-          by : (l : Loan) → read fuel ≡ l
+          by : (l : Result Fuel Refused) → read fuel ≡ l
               → RunBy (sizes m) ticks (fueled l (entered image m)) r.0
               m.state m.live m.store fuel n.state n.live n.store r.1
               → Called image P w (lucia_run fuel ticks) (with_loan (λ (f : Fuel). accepted (runs ticks f)) l) m r n
-          by (Held f) q a = run_does f q (rw found at a)
-          by (Refused k) q a = none (lucia_run fuel ticks) k r n (λ j. (a.0 j, a.4 j)) (a.1, a.2, a.3)
+          by (Ok f) q a = run_does f q (rw found at a)
+          by (Err k) q a = none (lucia_run fuel ticks) (number k) r n (λ j. (a.0 j, a.4 j)) (a.1, a.2, a.3)
 
     -- ---- The others, each by its request
     clear_called : (r : ℕ) (n : Memory) → Claimed image P w m lucia_clear r n

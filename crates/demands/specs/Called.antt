@@ -1,11 +1,11 @@
 -- The exported functions as calls of a host, one after the other, and demand 3 of them: all that `demand3_exported`
 -- (Theorem) says, but for what it cites of the crates below.
-use Rattle.std.specs.Prelude.{◌≡◌, List, [], ◌∷◌, ◌++◌, Bool, ℕ, ◌<◌, length}
+use Rattle.std.specs.Prelude.{◌≡◌, Result, Ok, Err, List, [], ◌∷◌, ◌++◌, Bool, ℕ, ◌<◌, length}
 use Rattle.cells.specs.Le.{Bytes}
 use Rattle.fuel.specs.Loans.{read, write}
 use Rattle.fuel.specs.declared.Fuel.{Fuel}
-use Rattle.fuel.specs.declared.Loan.{Loan}
-use Rattle.fuel.specs.declared.Loan.TheVariants.{Held, Refused}
+use Rattle.refusals.specs.declared.Refusal.{Refusal}
+use Rattle.refusals.specs.Refusals.{number}
 use Rattle.image.specs.Records.{if?, Answer, refused, accepted}
 use Rattle.machine.specs.Values.{Program}
 use Rattle.machine.specs.Calls.{Sizes, World, Given, nothing, no_fuel, Trace, steps_of, answer_of, given_of, fuel_after, Request, clear, text, bytes, set_global, get_global, set_builtin, get_builtin, Call, runs, asks, loads as load_call, load, Lent, lent, loaded, call_of, calls_of}
@@ -18,9 +18,9 @@ use Rattle.asks.specs.declared.Got.{Got}
 
 -- ---- The calls of the machine that they are
 -- With the fuel of a loan; a loan that is no 5 bytes holds none.
-abbrev pub with_loan : (Fuel → Answer Call) → Loan → Answer Call
-with_loan f (Held fuel) = f fuel
-with_loan f (Refused n) = refused n
+abbrev pub with_loan : (Fuel → Answer Call) → Result Fuel Refusal → Answer Call
+with_loan f (Ok fuel) = f fuel
+with_loan f (Err r) = refused (number r)
 
 -- A request, as a call; what is none is refused with its number, or with 11 where it is out of turn.
 unfoldable pub asking : (in_turn : Bool) → Answer Request → Answer Call

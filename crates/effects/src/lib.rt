@@ -3,7 +3,7 @@
 
 ghost use Rattle.std.specs.Prelude.{◌≡◌};
 ghost use Rattle.machine.specs.Values.{constant_of, equal_effects, effect_params, match_effect_handler};
-ghost use Rattle.scan.specs.Tables.{program_in};
+ghost use Rattle.scan.specs.Tables.{program_of};
 ghost use Rattle.plan.specs.Plans.{params_of};
 
 use cells::Cell;
@@ -11,45 +11,30 @@ use image::Constant;
 use plan::Params;
 
 // The constant that a Str, Bytes or Effect names; one that is not there has kind 0 and no bytes.
-pub fn constant_of(
-    image: &[u8],
-    rows: &[u32],
-    constants: &[u32],
-    inner: &[u32],
-    codes: usize,
-    v: Cell,
-) -> Constant
-    ensures { result ≡ constant_of (program_in image.now rows.now constants.now inner.now codes) v }
+pub fn constant_of(program: &lookups::Program, v: Cell) -> Constant
+    ensures { result ≡ constant_of (program_of program.now) v }
 {
     let code = v.number as usize;
-    if code >= codes {
+    if code >= program.codes {
         return Constant {
             kind: 0,
             place: 0,
             size: 0,
         };
     }
-    if v.payload >= program::field(rows, code, 7) as u64 {
+    if v.payload >= program.constant_count(code) as u64 {
         return Constant {
             kind: 0,
             place: 0,
             size: 0,
         };
     }
-    lookups::constant(image, rows, constants, code, v.payload as usize)
+    program.constant(code, v.payload as usize)
 }
 
 // Are two effects equal?
-pub fn equal_effects(
-    image: &[u8],
-    rows: &[u32],
-    constants: &[u32],
-    inner: &[u32],
-    codes: usize,
-    a: Cell,
-    b: Cell,
-) -> bool
-    ensures { result ≡ equal_effects (program_in image.now rows.now constants.now inner.now codes) a b }
+pub fn equal_effects(program: &lookups::Program, a: Cell, b: Cell) -> bool
+    ensures { result ≡ equal_effects (program_of program.now) a b }
 {
     if a.tag == 8 {
         return b.tag == 8 && a.number == b.number;
@@ -57,21 +42,17 @@ pub fn equal_effects(
     if b.tag != 24 {
         return false;
     }
-    let x = constant_of(image, rows, constants, inner, codes, a);
-    let y = constant_of(image, rows, constants, inner, codes, b);
-    contents::same_effect(contents::content(image, x), contents::content(image, y))
+    let x = constant_of(program, a);
+    let y = constant_of(program, b);
+    contents::same_effect(
+        contents::content(program.image, x),
+        contents::content(program.image, y),
+    )
 }
 
 // The parameters of an effect: a builtin has one.
-pub fn effect_params(
-    image: &[u8],
-    rows: &[u32],
-    constants: &[u32],
-    inner: &[u32],
-    codes: usize,
-    e: Cell,
-) -> Params
-    ensures { result ≡ params_of (effect_params (program_in image.now rows.now constants.now inner.now codes) e) }
+pub fn effect_params(program: &lookups::Program, e: Cell) -> Params
+    ensures { result ≡ params_of (effect_params (program_of program.now) e) }
 {
     if e.tag == 8 {
         return Params {
@@ -79,8 +60,8 @@ pub fn effect_params(
             variadic: false,
         };
     }
-    let c = constant_of(image, rows, constants, inner, codes, e);
-    let body = contents::content(image, c);
+    let c = constant_of(program, e);
+    let body = contents::content(program.image, c);
     Params {
         count: program::le16(body, 2),
         variadic: program::le16(body, 4) == 1,

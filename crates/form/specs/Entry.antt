@@ -1,13 +1,14 @@
 -- What every call but a load begins with: the refusals 6, 1, 2 and 4, 3, 10 and 7, in this order; or the program and the world that memory holds.
-use Rattle.std.specs.Prelude.{◌≡◌, List, ℕ, ◌*◌, length, get_or, take, eqb}
+use Rattle.std.specs.Prelude.{◌≡◌, List, ℕ, ◌*◌, length, get_or, take, eqb, Result, Ok, Err}
 use Rattle.cells.specs.Cells.{null, cells}
 use Rattle.cells.specs.declared.Cell.{Cell}
 use Rattle.image.specs.Records.{if?, Answer, refused, accepted, then}
 use Rattle.image.specs.Program.{Code}
 use Rattle.image.specs.Image.{parse}
 use Rattle.layout.specs.Reads.{Low?}
-use Rattle.layout.specs.declared.Read.{Read}
-use Rattle.layout.specs.declared.Read.TheVariants.{Refused, Accepted}
+use Rattle.layout.specs.declared.Sizes.{Sizes}
+use Rattle.refusals.specs.Refusals.{number}
+use Rattle.refusals.specs.declared.Refusal.{Refusal}
 use Rattle.machine.specs.Values.{Program}
 use Rattle.machine.specs.Calls.{World}
 use Rattle.memory.specs.View.{view}
@@ -42,11 +43,11 @@ entry image state live store =
     if? (eqb (length state) 8256) (then (λ (cs : List Code). held (record { image = image; codes = cs }) state live store) (parse image)) (refused 6)
 
 -- what an answer says, with the tables that it left
-abbrev pub saying : List ℕ → List ℕ → List ℕ → List ℕ → Read → List ℕ → List ℕ → List ℕ → Answer Entered
-saying image state live store (Refused n) rows constants inner = refused n
-saying image state live store (Accepted c u k) rows constants inner =
-    accepted (record { program = program_in image (take (10 * c) rows) (take u constants) (take k inner) c; world = view_of state live store })
+abbrev pub saying : List ℕ → List ℕ → List ℕ → List ℕ → Result Sizes Refusal → List ℕ → List ℕ → List ℕ → Answer Entered
+saying image state live store (Err r) rows constants inner = refused (number r)
+saying image state live store (Ok h) rows constants inner =
+    accepted (record { program = program_in image (take (10 * h.codes) rows) (take h.constants constants) (take h.inner inner) h.codes; world = view_of state live store })
 
-pub record Enters (image state live store : List ℕ) (r : Read) (rows constants inner : List ℕ) : Type 0 where
+pub record Enters (image state live store : List ℕ) (r : Result Sizes Refusal) (rows constants inner : List ℕ) : Type 0 where
   pub does : saying image state live store r rows constants inner ≡ entry image state live store
   pub low : Low? r

@@ -1,150 +1,62 @@
-// The form test of memory (refusal 7): one scan of the store from the front, one of the live stack, one of the state block; and what every call but a load begins with: the refusals 6, 1 to
-// 4, 10 and 7, in this order. The program is lent as the tables that its reader filled: image, rows, constants, inner, codes.
+// The form test of memory (refusal 7): one scan of the store from the front, one of the live stack, one of the state
+// block; and what every call but a load begins with: the refusals 6, 1 to 4, 10 and 7, in this order.
 #![tactic(auto)]
 
-ghost use Rattle.std.specs.Prelude.{◌≡◌, ◌+◌, ◌*◌, ◌≤◌, ◌<◌, length, take, get_or};
+ghost use Rattle.std.specs.Prelude.{◌≡◌, ◌+◌, ◌*◌, ◌≤◌, ◌<◌, length, take, get_or, unwrap_or};
 ghost use Rattle.cells.specs.Cells.{null, room, cells};
-ghost use Rattle.image.specs.Records.{both};
 ghost use Rattle.memory.specs.View.{frames_size};
 ghost use Rattle.memory.specs.Tests.{top_kind, turn_fits, closure_fits, list_fits, continuation_fits, object_fits, store_fits, live_fits, error_fits, result_fits, in_form};
-ghost use Rattle.scan.specs.Tables.{program_in};
+ghost use Rattle.scan.specs.Tables.{program_in, program_of};
+ghost use Rattle.reader.specs.Reads.{Fits};
 ghost use Rattle.form.specs.Entry.{held_answer, Enters};
+ghost use Rattle.refusals.specs.Refusals.{number_of};
 
 use cells::Cell;
-use layout::Read;
-use scan::Scan;
-
-// Two tests as one answer: a chain of `&&` would leave by a return of its own at each test.
-fn both(a: bool, b: bool) -> bool
-    ensures { result ≡ both a b }
-{
-    if a {
-        return b;
-    }
-    false
-}
+use layout::Sizes;
+use refusals::Refusal;
 
 // The closure at `at`: its code, and as many upvalues as that captures.
-fn closure_fits(
-    image: &[u8],
-    rows: &[u32],
-    constants: &[u32],
-    inner: &[u32],
-    codes: usize,
-    store: &[u8],
-    at: usize,
-    size: usize,
-) -> bool
+#[tactic(auto, using(crate::specs::Objects::known, crate::specs::Objects::captures), unfolding(image::specs::Records::both, memory::specs::Tests::closure_fits))]
+fn closure_fits(program: &lookups::Program, store: &[u8], at: usize, size: usize) -> bool
     requires { (at + 1 + size ≤ room store.now) × (size ≡ (get_or (cells store.now) at null).payload) }
-    ensures { result ≡ closure_fits (program_in image.now rows.now constants.now inner.now codes) (cells store.now) at }
+    ensures { result ≡ closure_fits (program_of program.now) (cells store.now) at }
 {
     let code = cells::number(store, at) as usize;
-    if code >= codes {
-        return false;
-    }
-    if size != program::field(rows, code, 5) {
-        return false;
-    }
-    scan::values_fit(
-        image,
-        rows,
-        constants,
-        inner,
-        codes,
-        store,
-        at,
-        store,
-        at + 1,
-        size,
-    )
+    code < program.codes
+        && size == program.capture_count(code)
+        && scan::values_fit(program, store, at, store, at + 1, size)
 }
 
 // The list at `at`.
-fn list_fits(
-    image: &[u8],
-    rows: &[u32],
-    constants: &[u32],
-    inner: &[u32],
-    codes: usize,
-    store: &[u8],
-    at: usize,
-    size: usize,
-) -> bool
+#[tactic(auto, unfolding(image::specs::Records::both, memory::specs::Tests::list_fits))]
+fn list_fits(program: &lookups::Program, store: &[u8], at: usize, size: usize) -> bool
     requires { (at + 1 + size ≤ room store.now) × (size ≡ (get_or (cells store.now) at null).payload) }
-    ensures { result ≡ list_fits (program_in image.now rows.now constants.now inner.now codes) (cells store.now) at }
+    ensures { result ≡ list_fits (program_of program.now) (cells store.now) at }
 {
-    if cells::number(store, at) != 0 {
-        return false;
-    }
-    if size > 4096 {
-        return false;
-    }
-    scan::values_fit(
-        image,
-        rows,
-        constants,
-        inner,
-        codes,
-        store,
-        at,
-        store,
-        at + 1,
-        size,
-    )
+    cells::number(store, at) == 0
+        && size <= 4096
+        && scan::values_fit(program, store, at, store, at + 1, size)
 }
 
 // The continuation at `at`: its frames have exactly its cells.
-fn continuation_fits(
-    image: &[u8],
-    rows: &[u32],
-    constants: &[u32],
-    inner: &[u32],
-    codes: usize,
-    store: &[u8],
-    at: usize,
-    size: usize,
-) -> bool
+#[tactic(auto, unfolding(image::specs::Records::both, memory::specs::Tests::continuation_fits))]
+fn continuation_fits(program: &lookups::Program, store: &[u8], at: usize, size: usize) -> bool
     requires { (at + 1 + size ≤ room store.now) × (size ≡ (get_or (cells store.now) at null).payload) }
-    ensures { result ≡ continuation_fits (program_in image.now rows.now constants.now inner.now codes) (cells store.now) at }
+    ensures { result ≡ continuation_fits (program_of program.now) (cells store.now) at }
 {
     let frames = cells::number(store, at) as usize;
-    if frames < 1 {
-        return false;
-    }
-    if frames > 256 {
-        return false;
-    }
     let from = 16 * (at + 1);
     let to = 16 * (at + 1 + size);
-    match scan::frames_fit(
-        image,
-        rows,
-        constants,
-        inner,
-        codes,
-        store,
-        at,
-        &store[from..to],
-        frames,
-    ) {
-        Scan::At(end) => end == size,
-        Scan::Bad => false,
-    }
+    frames >= 1
+        && frames <= 256
+        && scan::frames_fit(program, store, at, &store[from..to], frames) == Some(size)
 }
 
 // The object at `at`, which ends by `end`.
-fn object_fits(
-    image: &[u8],
-    rows: &[u32],
-    constants: &[u32],
-    inner: &[u32],
-    codes: usize,
-    store: &[u8],
-    end: usize,
-    at: usize,
-) -> bool
+#[tactic(auto, unfolding(image::specs::Records::both, memory::specs::Tests::object_fits))]
+fn object_fits(program: &lookups::Program, store: &[u8], end: usize, at: usize) -> bool
     requires { (end ≤ room store.now) × (at < end) }
-    ensures { result ≡ object_fits (program_in image.now rows.now constants.now inner.now codes) (cells store.now) end at }
+    ensures { result ≡ object_fits (program_of program.now) (cells store.now) end at }
 {
     let size = cells::payload(store, at) as usize;
     if size > end - at - 1 {
@@ -152,31 +64,23 @@ fn object_fits(
     }
     let kind = cells::tag(store, at);
     match kind {
-        128 => closure_fits(image, rows, constants, inner, codes, store, at, size),
-        129 => list_fits(image, rows, constants, inner, codes, store, at, size),
-        130 => continuation_fits(image, rows, constants, inner, codes, store, at, size),
+        128 => closure_fits(program, store, at, size),
+        129 => list_fits(program, store, at, size),
+        130 => continuation_fits(program, store, at, size),
         _ => false,
     }
 }
 
 // The store: objects, one behind the other, in exactly its used cells.
-fn store_fits(
-    image: &[u8],
-    rows: &[u32],
-    constants: &[u32],
-    inner: &[u32],
-    codes: usize,
-    store: &[u8],
-    used: usize,
-) -> bool
-    ensures { result ≡ store_fits (program_in image.now rows.now constants.now inner.now codes) (cells store.now) used }
+fn store_fits(program: &lookups::Program, store: &[u8], used: usize) -> bool
+    ensures { result ≡ store_fits (program_of program.now) (cells store.now) used }
 {
     if used > cells::room(store) {
         return false;
     }
     let mut at = 0;
     while at < used {
-        if !object_fits(image, rows, constants, inner, codes, store, used, at) {
+        if !object_fits(program, store, used, at) {
             return false;
         }
         at += 1 + cells::payload(store, at) as usize;
@@ -185,12 +89,9 @@ fn store_fits(
 }
 
 // The live stack: frames, then the arguments of an effect result.
+#[tactic(auto, using(crate::specs::States::live_end, crate::specs::States::fit, crate::specs::States::ends, crate::specs::States::behind), unfolding(image::specs::Records::both, memory::specs::Tests::live_fits))]
 fn live_fits(
-    image: &[u8],
-    rows: &[u32],
-    constants: &[u32],
-    inner: &[u32],
-    codes: usize,
+    program: &lookups::Program,
     store: &[u8],
     used: usize,
     live: &[u8],
@@ -198,33 +99,21 @@ fn live_fits(
     args: usize,
 ) -> bool
     requires { used ≤ room store.now }
-    ensures { result ≡ live_fits (program_in image.now rows.now constants.now inner.now codes) (cells store.now) used count args (cells live.now) }
+    ensures { result ≡ live_fits (program_of program.now) (cells store.now) used count args (cells live.now) }
 {
     if count > 256 {
         return false;
     }
-    match scan::frames_fit(
-        image, rows, constants, inner, codes, store, used, live, count,
-    ) {
-        Scan::Bad => false,
-        Scan::At(end) => {
-            if args > cells::room(live) - end {
-                return false;
-            }
-            scan::values_fit(
-                image, rows, constants, inner, codes, store, used, live, end, args,
-            )
-        }
-    }
+    let Some(end) = scan::frames_fit(program, store, used, live, count) else {
+        return false;
+    };
+    args <= cells::room(live) - end && scan::values_fit(program, store, used, live, end, args)
 }
 
 // The fields of an error, by its kind.
+#[tactic(auto, unfolding(image::specs::Records::both, memory::specs::Tests::error_fits))]
 fn error_fits(
-    image: &[u8],
-    rows: &[u32],
-    constants: &[u32],
-    inner: &[u32],
-    codes: usize,
+    program: &lookups::Program,
     store: &[u8],
     used: usize,
     kind: u64,
@@ -232,36 +121,27 @@ fn error_fits(
     second: u32,
 ) -> bool
     requires { used ≤ room store.now }
-    ensures { result ≡ error_fits (program_in image.now rows.now constants.now inner.now codes) (cells store.now) used kind v second }
+    ensures { result ≡ error_fits (program_of program.now) (cells store.now) used kind v second }
 {
     let tag = v.tag;
     let number = v.number;
     let payload = v.payload;
     match kind {
-        3 => both(
-            both(tag <= 32, number <= 1),
-            both(payload <= 4096, second == 0),
-        ),
-        4 => both(both(tag < 52, payload < 10), second == 0),
-        5 => both(both(tag < 52, payload < 10), second < 10),
-        6 => both(both(both(tag < 24, number == 0), payload < 10), second == 0),
-        7 => both(both(both(tag < 24, number == 0), payload < 10), second < 10),
-        8 => both(scan::is_null(v), second == 0),
-        9..=10 => both(
-            scan::value_fits(image, rows, constants, inner, codes, store, used, v),
-            second == 0,
-        ),
+        3 => tag <= 32 && number <= 1 && payload <= 4096 && second == 0,
+        4 => tag < 52 && payload < 10 && second == 0,
+        5 => tag < 52 && payload < 10 && second < 10,
+        6 => tag < 24 && number == 0 && payload < 10 && second == 0,
+        7 => tag < 24 && number == 0 && payload < 10 && second < 10,
+        8 => scan::is_null(v) && second == 0,
+        9..=10 => scan::value_fits(program, store, used, v) && second == 0,
         _ => false,
     }
 }
 
 // The result, by its kind: its value, and the cell of its second type and its arguments' count.
+#[tactic(auto, unfolding(image::specs::Records::both, memory::specs::Tests::result_fits))]
 fn result_fits(
-    image: &[u8],
-    rows: &[u32],
-    constants: &[u32],
-    inner: &[u32],
-    codes: usize,
+    program: &lookups::Program,
     store: &[u8],
     used: usize,
     kind: u64,
@@ -269,41 +149,34 @@ fn result_fits(
     more: Cell,
 ) -> bool
     requires { used ≤ room store.now }
-    ensures { result ≡ result_fits (program_in image.now rows.now constants.now inner.now codes) (cells store.now) used kind v more }
+    ensures { result ≡ result_fits (program_of program.now) (cells store.now) used kind v more }
 {
     if more.number != 0 {
         return false;
     }
     let second = more.tag;
     if kind == 2 {
-        return both(
-            scan::effect_fits(image, rows, constants, inner, codes, store, used, v),
-            second == 0,
-        );
+        return scan::effect_fits(program, store, used, v) && second == 0;
     }
     if more.payload != 0 {
         return false;
     }
     match kind {
-        0 => both(scan::is_null(v), second == 0),
-        1 => both(
-            scan::value_fits(image, rows, constants, inner, codes, store, used, v),
-            second == 0,
-        ),
-        _ => error_fits(
-            image, rows, constants, inner, codes, store, used, kind, v, second,
-        ),
+        0 => scan::is_null(v) && second == 0,
+        1 => scan::value_fits(program, store, used, v) && second == 0,
+        _ => error_fits(program, store, used, kind, v, second),
     }
 }
 
 // A wait and a slice beside the kind of the frame that runs next.
-fn turn_fits(top: u32, wait: u32, slice: u32) -> bool
-    ensures { result ≡ turn_fits top wait slice }
+#[tactic(auto, unfolding(image::specs::Records::both, memory::specs::Tests::turn_fits))]
+fn turn_fits(top: Option<u32>, wait: u32, slice: u32) -> bool
+    ensures { result ≡ turn_fits (unwrap_or top 0) wait slice }
 {
     match top {
-        64 => both(wait == 0, slice <= 64),
-        65 => both(wait <= 1, slice == 64),
-        _ => both(wait == 0, slice == 64),
+        Some(64) => wait == 0 && slice <= 64,
+        Some(65) => wait <= 1 && slice == 64,
+        _ => wait == 0 && slice == 64,
     }
 }
 
@@ -313,44 +186,34 @@ fn frames_size(x: &[u8], n: usize) -> usize
     ensures { result ≡ frames_size n (cells x.now) }
 {
     let mut at = 0;
-    let mut i = 0;
-    while i < n {
+    for _ in 0..n {
         let head = cells::get(x, at);
         let stack = cells::payload(x, at + 2) as usize;
         at += 6 + head.number as usize + 2 * (head.payload as usize) + stack;
-        i += 1;
     }
     at
 }
 
-// The kind of the frame that runs next: the top frame's where there is no result, 0 if there is none.
-fn top_kind(live: &[u8], count: usize, res: u64) -> u32
+// The kind of the frame that runs next: the top frame's where there is no result.
+fn top_kind(live: &[u8], count: usize, res: u64) -> Option<u32>
     requires { frames_size count (cells live.now) ≤ room live.now }
-    ensures { result ≡ top_kind count res (cells live.now) }
+    ensures { unwrap_or result 0 ≡ top_kind count res (cells live.now) }
 {
     if count == 0 {
-        return 0;
+        return None;
     }
     if res != 0 {
-        return 0;
+        return None;
     }
     let top = frames_size(live, count - 1);
-    cells::tag(live, top)
+    Some(cells::tag(live, top))
 }
 
 // Is memory in form? The state block has its length; live stack and store are lent up to their most.
-fn in_form(
-    image: &[u8],
-    rows: &[u32],
-    constants: &[u32],
-    inner: &[u32],
-    codes: usize,
-    state: &[u8],
-    live: &[u8],
-    store: &[u8],
-) -> bool
+#[tactic(auto, using(crate::specs::States::store_inside, crate::specs::States::live_frames, crate::specs::States::block_values), unfolding(image::specs::Records::both, memory::specs::Tests::in_form))]
+fn in_form(program: &lookups::Program, state: &[u8], live: &[u8], store: &[u8]) -> bool
     requires { length state.now ≡ 8256 }
-    ensures { result ≡ in_form (program_in image.now rows.now constants.now inner.now codes) (cells store.now) (cells state.now) (cells live.now) }
+    ensures { result ≡ in_form (program_of program.now) (cells store.now) (cells state.now) (cells live.now) }
 {
     let head = cells::get(state, 0);
     let turn = cells::get(state, 1);
@@ -359,27 +222,12 @@ fn in_form(
     let used = head.payload as usize;
     let count = head.number as usize;
     let args = more.payload as usize;
-    if !store_fits(image, rows, constants, inner, codes, store, used) {
-        return false;
-    }
-    if !live_fits(
-        image, rows, constants, inner, codes, store, used, live, count, args,
-    ) {
-        return false;
-    }
     let kind = turn.payload;
-    if !result_fits(
-        image, rows, constants, inner, codes, store, used, kind, value, more,
-    ) {
-        return false;
-    }
-    let top = top_kind(live, count, kind);
-    if !turn_fits(top, turn.number, turn.tag) {
-        return false;
-    }
-    scan::values_fit(
-        image, rows, constants, inner, codes, store, used, state, 4, 512,
-    )
+    store_fits(program, store, used)
+        && live_fits(program, store, used, live, count, args)
+        && result_fits(program, store, used, kind, value, more)
+        && turn_fits(top_kind(live, count, kind), turn.number, turn.tag)
+        && scan::values_fit(program, store, used, state, 4, 512)
 }
 
 // The front of a loan, up to so many cells: "a longer loan is used that far".
@@ -388,42 +236,42 @@ pub fn lent(s: &[u8], most: usize) -> &[u8]
     ensures { result.now ≡ take (16 * most) s.now }
 {
     let end = 16 * most;
-    if s.len() <= end {
-        return &s[0..];
-    }
-    &s[..end]
+    &s[..end.min(s.len())]
 }
 
-// Refusal 10 or 7 for what memory holds, 0 for neither.
-fn held(
-    image: &[u8],
-    rows: &[u32],
-    constants: &[u32],
-    inner: &[u32],
-    codes: usize,
-    state: &[u8],
-    live: &[u8],
-    store: &[u8],
-) -> u32
+// Is memory loaded, and in form?
+fn held(program: &lookups::Program, state: &[u8], live: &[u8], store: &[u8]) -> Result<(), Refusal>
     requires { length state.now ≡ 8256 }
-    ensures { result ≡ held_answer (program_in image.now rows.now constants.now inner.now codes) state.now live.now store.now }
+    ensures { number_of result ≡ held_answer (program_of program.now) state.now live.now store.now }
 {
     if cells::tag(state, 0) != 1 {
-        return 10;
+        return Err(Refusal::NotLoaded);
     }
-    if in_form(
+    if in_form(program, state, lent(live, 4096), lent(store, 65536)) {
+        return Ok(());
+    }
+    Err(Refusal::NotInForm)
+}
+
+// The program of tables of which only the front is filled: so many codes, constants and numbers of inner codes.
+pub fn filled<'a>(
+    image: &'a [u8],
+    rows: &'a [u32],
+    constants: &'a [u32],
+    inner: &'a [u32],
+    sizes: Sizes,
+) -> lookups::Program<'a>
+    requires { Fits sizes.codes sizes.constants sizes.inner rows.now constants.now inner.now }
+    ensures { program_of result ≡ program_in image.now (take (10 * sizes.codes) rows.now) (take sizes.constants constants.now) (take sizes.inner inner.now) sizes.codes }
+{
+    let end = 10 * sizes.codes;
+    lookups::made(
         image,
-        rows,
-        constants,
-        inner,
-        codes,
-        state,
-        lent(live, 4096),
-        lent(store, 65536),
-    ) {
-        return 0;
-    }
-    7
+        &rows[..end],
+        &constants[..sizes.constants],
+        &inner[..sizes.inner],
+        sizes.codes,
+    )
 }
 
 // What every call but a load begins with: the image is read into the tables, and memory is in form.
@@ -435,31 +283,15 @@ pub fn enter(
     rows: &mut [u32],
     constants: &mut [u32],
     inner: &mut [u32],
-) -> Read
+) -> Result<Sizes, Refusal>
     requires { (2560 ≤ length rows.old) × (10923 ≤ length constants.old) × (256 ≤ length inner.old) }
     ensures { Enters image.now state.now live.now store.now result rows.new constants.new inner.new }
 {
     if state.len() != 8256 {
-        return Read::Refused(6);
+        return Err(Refusal::BadLoan);
     }
-    match reader::read_image(image, rows, constants, inner) {
-        Read::Refused(n) => Read::Refused(n),
-        Read::Accepted(codes, used, kept) => {
-            let end = 10 * codes;
-            let refusal = held(
-                image,
-                &rows[..end],
-                &constants[..used],
-                &inner[..kept],
-                codes,
-                state,
-                live,
-                store,
-            );
-            if refusal != 0 {
-                return Read::Refused(refusal);
-            }
-            Read::Accepted(codes, used, kept)
-        }
-    }
+    let sizes = reader::read_image(image, rows, constants, inner)?;
+    let program = filled(image, rows, constants, inner, sizes);
+    held(&program, state, live, store)?;
+    Ok(sizes)
 }

@@ -5,7 +5,9 @@ use Rattle.std.proofs.Math.Decide.{dec_le}
 use Rattle.std.proofs.Math.IntN.{sub_ℕ, +ℤ_idr, +ℤ_assoc, neg_ℤ-+ℤ}
 use Rattle.std.specs.Int.Signed.{le_z}
 use Rattle.std.proofs.lemmas.Bool.{lt-leb}
-use Rattle.std.specs.Int.{w32}
+use Rattle.std.specs.Int.{w32, saturate_signed, int_min}
+use Rattle.std.specs.Prelude.{min as least}
+use Rattle.std.proofs.lemmas.Int.{ints}
 use Rattle.fuel.specs.declared.Fuel.{Fuel}
 use Rattle.fuel.specs.Fuels.{most, saturate, min, set_remaining, adjust, consume, refill}
 
@@ -16,6 +18,24 @@ most_low n h = simp (le-leb _ _ h)
 pub most_high : (n : ℕ) → 2147483647 < n → most n ≡ 2147483647
 unfolding most
 most_high n h = simp (lt-leb _ _ h)
+
+-- std's words for the nearest i32 and the lesser number
+most_min : (n : ℕ) → most n ≡ least n 2147483647
+unfolding most
+most_min n = by (dec_le n 2147483647)
+  where
+    by : Dec (n ≤ 2147483647) → most n ≡ least n 2147483647
+    by (yes h) = omega (arith, most_low n h)
+    by (no h) = omega (arith, most_high n (omega arith))
+
+pub saturate_is : (x : ℤ) → saturate_signed w32 x ≡ saturate x
+unfolding saturate
+saturate_is (pos n) = ap pos (sym (most_min n))
+saturate_is (negsuc n) = ap negsuc (sym (most_min n))
+
+pub min_is : (x y : ℤ) → int_min x y ≡ min x y
+unfolding min
+min_is x y = grind (arith, ints)
 
 most_less : (n : ℕ) → most n < 2147483648
 most_less n = by (dec_le n 2147483647)

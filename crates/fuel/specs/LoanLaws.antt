@@ -1,17 +1,17 @@
 -- Laws of fuel as 5 bytes.
-use Rattle.std.specs.Prelude.{◌≡◌, refl, not, List, ℕ, eqb, length, get_or}
+use Rattle.std.specs.Prelude.{◌≡◌, refl, not, Ok, Err, List, ℕ, eqb, length, get_or}
 use Rattle.std.proofs.Common.{sym, ap, ◌∙◌, subst, inr, arith, eq-eqb, ne_eqb, SFits, to_z, of_z, to_z-of_z}
 use Rattle.std.proofs.Math.Decide.{ℕ_discrete}
 use Rattle.std.specs.Int.{w32}
 use Rattle.std.proofs.Math.Facts.{of_z-to_z, Fits-of_z, sfits_to_z}
 use Rattle.cells.specs.Le.{le_at, put_at, limit, Bytes, length_put, get_or_put, le_put_same, le_bound, put_le}
 use Rattle.fuel.specs.declared.Fuel.{Fuel}
-use Rattle.fuel.specs.declared.Loan.TheVariants.{Held, Refused}
+use Rattle.refusals.specs.declared.Refusal.TheVariants.{BadLoan}
 use Rattle.fuel.specs.Loans.{held, read, write}
 
 -- the two cases of each definition
 module _ (s : List ℕ) (is : length s ≡ 5) where
-  pub read_held : read s ≡ Held (held s)
+  pub read_held : read s ≡ Ok (held s)
   unfolding read
   read_held = simp (eq-eqb _ _ is)
 
@@ -20,7 +20,7 @@ module _ (s : List ℕ) (is : length s ≡ 5) where
   write_held f = simp (eq-eqb _ _ is)
 
 module _ (s : List ℕ) (else : length s ≡ 5 → ⊥) where
-  pub read_other : read s ≡ Refused 6
+  pub read_other : read s ≡ Err BadLoan
   unfolding read
   read_other = simp (ne_eqb _ _ else)
 
@@ -49,16 +49,16 @@ pub write_mark : (s : List ℕ) (f : Fuel) → get_or (write s f) 4 0 ≡ get_or
 write_mark s f = on_write (λ t. get_or t 4 0 ≡ get_or s 4 0) s f (λ is. get_or_put 4 s 0 _ 4 (inr (omega arith))) refl
 
 -- fuel that was written is read, if its mark is the one that was there
-pub read_write : (s : List ℕ) (f : Fuel) → length s ≡ 5 → SFits w32 f.fuel → f.interrupted ≡ (held s).interrupted → read (write s f) ≡ Held f
+pub read_write : (s : List ℕ) (f : Fuel) → length s ≡ 5 → SFits w32 f.fuel → f.interrupted ≡ (held s).interrupted → read (write s f) ≡ Ok f
 unfolding limit
 read_write s f is n m =
     let bits : le_at 4 (write s f) 0 ≡ of_z w32 f.fuel = ap (λ (t : List ℕ). le_at 4 t 0) (write_held s is f) ∙ le_put_same 4 s 0 _ (omega arith) (Fits-of_z n).fits in
     let number : to_z w32 (le_at 4 (write s f) 0) ≡ f.fuel = ap (to_z w32) bits ∙ to_z-of_z n in
     let mark : (held (write s f)).interrupted ≡ f.interrupted = ap (λ (b : ℕ). not (eqb b 0)) (write_mark s f) ∙ sym m in
-    read_held (write s f) (length_write s f ∙ is) ∙ (λ i. Held (record { fuel = number i; interrupted = mark i }))
+    read_held (write s f) (length_write s f ∙ is) ∙ (λ i. Ok (record { fuel = number i; interrupted = mark i }))
 
 -- to write what was read changes nothing
-pub write_read : (s : List ℕ) (f : Fuel) → Bytes s → read s ≡ Held f → write s f ≡ s
+pub write_read : (s : List ℕ) (f : Fuel) → Bytes s → read s ≡ Ok f → write s f ≡ s
 unfolding limit
 write_read s f bytes e = on_write (λ t. t ≡ s) s f same refl
   where

@@ -1,7 +1,7 @@
 -- Rows of the test board and of the ends of i32, by the definitions.
-use Rattle.std.specs.Prelude.{◌≡◌, refl, true, false, [], ◌∷◌, pos, negsuc}
+use Rattle.std.specs.Prelude.{◌≡◌, refl, true, false, Ok, Err, [], ◌∷◌, pos, negsuc}
 use Rattle.cells.specs.Le.{le_at, put_at}
-use Rattle.fuel.specs.declared.Loan.TheVariants.{Held, Refused}
+use Rattle.refusals.specs.declared.Refusal.TheVariants.{BadLoan}
 use Rattle.fuel.specs.Fuels.{most, saturate, min, with, interrupt, adjust, consume, refill, should_continue}
 use Rattle.fuel.specs.Loans.{read, write}
 
@@ -38,7 +38,7 @@ pub at_one_interrupted : should_continue (interrupt (with (pos 1))) ≡ false
 at_one_interrupted = refl
 
 -- a loan of -2 with mark byte 7, which a write leaves; one of 6 bytes
-pub minus_two : read (254 ∷ 255 ∷ 255 ∷ 255 ∷ 7 ∷ []) ≡ Held (interrupt (with (negsuc 1)))
+pub minus_two : read (254 ∷ 255 ∷ 255 ∷ 255 ∷ 7 ∷ []) ≡ Ok (interrupt (with (negsuc 1)))
 unfolding read le_at
 minus_two = refl
 
@@ -46,6 +46,6 @@ pub seven_left : write (0 ∷ 0 ∷ 0 ∷ 0 ∷ 7 ∷ []) (with (negsuc 1)) ≡ 
 unfolding write put_at
 seven_left = refl
 
-pub six_bytes : read (0 ∷ 0 ∷ 0 ∷ 0 ∷ 0 ∷ 0 ∷ []) ≡ Refused 6
+pub six_bytes : read (0 ∷ 0 ∷ 0 ∷ 0 ∷ 0 ∷ 0 ∷ []) ≡ Err BadLoan
 unfolding read
 six_bytes = refl

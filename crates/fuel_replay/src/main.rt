@@ -24,8 +24,8 @@ fn operated(fuel: fuel::Fuel, operation: u8, x: i32, max: i32) -> fuel::Fuel {
 
 fn number(loan: &[u8]) -> i32 {
     match fuel::read(loan) {
-        fuel::Loan::Held(fuel) => fuel.remaining(),
-        fuel::Loan::Refused(_) => 0,
+        Ok(fuel) => fuel.remaining(),
+        Err(_) => 0,
     }
 }
 
@@ -54,21 +54,22 @@ fn row(input: &mut impl Read, output: &mut impl Write) -> io::Result<bool> {
     let x = number(&asked[5..10]);
     let max = number(&asked[10..15]);
     match fuel::read(&asked[0..5]) {
-        fuel::Loan::Held(before) => {
+        Ok(before) => {
             let after = operated(before, asked[15], x, max);
             write(output, &mut asked[0..5], after)?;
             Ok(true)
         }
-        fuel::Loan::Refused(_) => Ok(false),
+        Err(_) => Ok(false),
     }
 }
 
 fn main(rt: HostRuntime) -> io::Result<()> {
     let mut input = rt.stdin();
     let mut output = rt.stdout();
-    let mut rows: u32 = 1000000;
-    while rows > 0 && row(&mut input, &mut output)? {
-        rows -= 1;
+    for _ in 0..1000000u32 {
+        if !row(&mut input, &mut output)? {
+            break;
+        }
     }
     Ok(())
 }

@@ -1,5 +1,5 @@
 -- One law for each return of what follows a slice.
-use Rattle.std.specs.Prelude.{◌≡◌, refl, List, ℕ, ◌-◌}
+use Rattle.std.specs.Prelude.{◌≡◌, refl, List, ℕ, ◌-◌, Result}
 use Rattle.std.proofs.Math.Path.{sym, subst}
 use Rattle.std.proofs.Common.{ap, ◌∙◌}
 use Rattle.cells.specs.Cells.{cells}
@@ -22,13 +22,16 @@ use Rattle.steps.specs.declared.Closing.{Closing}
 use Rattle.steps.specs.declared.Closing.TheVariants.{Call, Return, ReturnCall}
 use Rattle.acts.specs.Acted as acted
 use Rattle.closing.specs.Closed as closed
-use Rattle.acts.specs.Acted.{Bounded, Opcode}
+use Rattle.acts.specs.Acted.{Bounded, Opcode, as_failed}
 use Rattle.closing.specs.Closed.{closing_number}
+use Rattle.groups.specs.declared.Stand.TheVariants as stand
 use Rattle.acts.specs.declared.Acted.{Acted}
+use Rattle.closing.specs.Results.{used_failed}
 use Rattle.groups.specs.Grouped.{stood, charged_group, acted_group, Finishes}
 use Rattle.groups.specs.GroupedLaws.{charged_counts, acted_uses, grouped_acted, closing_charges, failing_charges}
 use Rattle.groups.specs.FinishLaws.{counts_at, busy_at, room_same, finish_paused, finish_spent, finish_refused, finish_busy, finish_counts}
 use Rattle.groups.specs.declared.Group.{Group}
+use Rattle.refusals.specs.declared.Refusal.{Refusal}
 
 same_refl : (a : List ℕ) → Same a a
 same_refl a = record { rest = refl; len = refl }
@@ -51,7 +54,7 @@ counted_is : {n : ℕ} (g : registers.Running) (frames u : ℕ) → n ≡ end_of
 counted_is g frames u e = ap (λ (i : ℕ). counted frames i u) e
 
 module _ {P : Program} {frames n : ℕ} {s : Slice} {fuel : Fuel} {r : Group} (state store starts : List ℕ) {live live' : List ℕ} (j : n ≡ end_of s.g) (w : Settles s.g live live') where
-  pub finishes_paused : s.end ≡ Paused → r ≡ stood 102 fuel s.ticks s.left (counted frames n s.used) → Finishes P frames s fuel r state live store starts state live' store starts
+  pub finishes_paused : s.end ≡ Paused → r ≡ stood stand.Paused fuel s.ticks s.left (counted frames n s.used) → Finishes P frames s fuel r state live store starts state live' store starts
   finishes_paused e q = record {
     acts = λ z t left m handle code x a low.
         let y = subst (λ (i : End). Ended P z t left m handle code s i (cells state) (cells live) (cells store)) e x in
@@ -69,7 +72,7 @@ module _ {P : Program} {frames n : ℕ} {s : Slice} {fuel : Fuel} {r : Group} (s
     appends = used_at r (ap (λ (x : Group). x.counts.store) q ∙ ap (λ (x : Counts). x.store) (charged_counts fuel 0 s.ticks (counted frames n s.used))) (appends_refl s.used store);
   }
 
-  pub finishes_refused : {o : ℕ} → s.end ≡ Refused o → r ≡ stood o fuel s.ticks s.left (counted frames n s.used) → Finishes P frames s fuel r state live store starts state live' store starts
+  pub finishes_refused : {o : Refusal} → s.end ≡ Refused o → r ≡ stood (stand.Refused o) fuel s.ticks s.left (counted frames n s.used) → Finishes P frames s fuel r state live store starts state live' store starts
   finishes_refused e q = record {
     acts = λ z t left m handle code x a low.
         let y = subst (λ (i : End). Ended P z t left m handle code s i (cells state) (cells live) (cells store)) e x in
@@ -78,25 +81,25 @@ module _ {P : Program} {frames n : ℕ} {s : Slice} {fuel : Fuel} {r : Group} (s
     appends = used_at r (ap (λ (x : Group). x.counts.store) q) (appends_refl s.used store);
   }
 
-module _ {P : Program} {frames n : ℕ} {s : Slice} {fuel : Fuel} {r : Group} {a : Acted} {state live store starts state' live' store' starts' : List ℕ} (i : n ≡ end_of s.g) where
-  pub finishes_throws : {h : registers.Running} {x : Error} → s.end ≡ Throws h x → acted.Fails P frames s.used s.g h x a state live store starts state' live' store' starts' → r ≡ acted_group a fuel 0 s.ticks s.left (counted frames n s.used)
+module _ {P : Program} {frames n : ℕ} {s : Slice} {fuel : Fuel} {r : Group} {state live store starts state' live' store' starts' : List ℕ} (i : n ≡ end_of s.g) where
+  pub finishes_throws : {h : registers.Running} {x : Error} {d : Result Counts Refusal} {a : Result Acted Refusal} → s.end ≡ Throws h x → acted.Fails P frames s.used s.g h x d state live store starts state' live' store' starts' → a ≡ as_failed d → r ≡ acted_group a fuel 0 s.ticks s.left (counted frames n s.used)
       → Finishes P frames s fuel r state live store starts state' live' store' starts'
   unfolding finish_busy busy_at closing_number
-  finishes_throws e w q = record {
+  finishes_throws {d = d} {a} e w k q = record {
     acts = λ z t left m handle code x o low.
         let y = subst (λ (i : End). Ended P z t left m handle code s i (cells state) (cells live) (cells store)) e x in
         let v = y.0 in
         let q' = v.at.inside in
-        rw q (grouped_acted v.machine s.ticks s.left (v.follows fuel) v.less y.1 o.accepted o.small q'.fits (at_ready v.at) low o.low (room_same w.bounded.same_live q'.room)
-        (room_same w.bounded.same_store q'.room_store) (w.bounded.table ∙ o.table) failing 0 a (λ p after j. failing_charges (run P z (s.ticks - 1)) fuel s.left after j) (counted_is s.g frames s.used i ∙ finish_counts o v) (w.acts z v.machine (finish_busy o v) y.2));
+        rw (q, k) (grouped_acted v.machine s.ticks s.left (v.follows fuel) v.less y.1 o.accepted o.small q'.fits (at_ready v.at) low o.low (room_same w.bounded.same_live q'.room)
+        (room_same w.bounded.same_store q'.room_store) (w.bounded.table ∙ o.table) failing 0 (as_failed d) (λ p after j. failing_charges (run P z (s.ticks - 1)) fuel s.left after j) (counted_is s.g frames s.used i ∙ finish_counts o v) (w.acts z v.machine (finish_busy o v) y.2));
     bounded = w.bounded;
-    appends = used_at r (ap (λ (x : Group). x.counts.store) q ∙ acted_uses a fuel 0 s.ticks s.left (counted frames n s.used)) w.appends;
+    appends = used_at r (ap (λ (x : Group). x.counts.store) q ∙ ap (λ (x : Result Acted Refusal). (acted_group x fuel 0 s.ticks s.left (counted frames n s.used)).counts.store) k ∙ acted_uses (as_failed d) fuel 0 s.ticks s.left (counted frames n s.used)) (used_failed d w.appends);
   }
 
-  pub finishes_closes : {j : Closing} {x : ℕ} → s.end ≡ Closes j x → closed.Closes P (closing_number j) frames s.used s.g x a state live store starts state' live' store' starts' → r ≡ acted_group a fuel s.left s.ticks s.left (counted frames n s.used)
+  pub finishes_closes : {j : Closing} {x : ℕ} {a : Result Acted Refusal} → s.end ≡ Closes j x → closed.Closes P (closing_number j) frames s.used s.g x a state live store starts state' live' store' starts' → r ≡ acted_group a fuel s.left s.ticks s.left (counted frames n s.used)
       → Finishes P frames s fuel r state live store starts state' live' store' starts'
   unfolding finish_busy busy_at closing_number
-  finishes_closes {j} {x} e w q = record {
+  finishes_closes {j} {x} {a} e w q = record {
     acts = λ z t left m handle code u o low.
         let y = subst (λ (i : End). Ended P z t left m handle code s i (cells state) (cells live) (cells store)) e u in
         let v = y.0 in

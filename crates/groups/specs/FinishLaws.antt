@@ -8,7 +8,7 @@ use Rattle.cells.specs.declared.Cell.{Cell}
 use Rattle.fuel.specs.declared.Fuel.{Fuel}
 use Rattle.image.specs.Fine.{Accepted}
 use Rattle.machine.specs.Values.{Program}
-use Rattle.machine.specs.Machine.{Frame, lucia, Result, running, M, frames_cost, result_cost}
+use Rattle.machine.specs.Machine.{Frame, lucia, Result, M, frames_cost, result_cost}
 use Rattle.machine.specs.Opcodes.{next_action}
 use Rattle.machine.specs.Calls.{Sizes, stops, outcome}
 use Rattle.memory.specs.Layout.{flat, result_shown}
@@ -22,6 +22,9 @@ use Rattle.slices.specs.Sliced.{At, Reached, Spends}
 use Rattle.slices.specs.SlicedLaws.{at_ready}
 use Rattle.slices.specs.declared.Slice.{Slice}
 use Rattle.acts.specs.Acted.{Busy, Resting}
+use Rattle.groups.specs.declared.Stand.TheVariants as stand
+use Rattle.refusals.specs.declared.Refusal.{Refusal}
+use Rattle.refusals.specs.Refusals.{number}
 use Rattle.groups.specs.Grouped.{stood, charged_group, Around, Grouped}
 use Rattle.groups.specs.GroupedLaws.{pause_ends, grouped_end, grouped_charge, grouped_stop}
 
@@ -109,16 +112,16 @@ module _ {P : Program} {z : Sizes} {m : M} {frames : ℕ} {L S : List Cell} {sta
 
 module _ {P : Program} {z : Sizes} {t left : ℕ} {m : M} {handle code frames : ℕ} {B S : List Cell} {live live' : List ℕ} {starts : List ℕ} (fuel : Fuel) (s : Slice) (around : Around P z frames (cells live) S starts m) (low : s.left ≤ 64)
     (same : Same live live') where
-  pub finish_paused : Reached P z t left m handle code s B (cells live) S → s.ticks ≡ 0 → Settles s.g live live' → Grouped P z t fuel left m (stood 102 fuel s.ticks s.left (counts_at frames s.g s.used)) B (cells live') S starts
+  pub finish_paused : Reached P z t left m handle code s B (cells live) S → s.ticks ≡ 0 → Settles s.g live live' → Grouped P z t fuel left m (stood stand.Paused fuel s.ticks s.left (counts_at frames s.g s.used)) B (cells live') S starts
   finish_paused x e k =
-      grouped_end 102 x.machine (λ h. omega (arith, h)) (at_resting around x.at x.under refl same k) x.less low
+      grouped_end stand.Paused x.machine (λ h. omega (arith, h)) (at_resting around x.at x.under refl same k) x.less low
       (rw (← pause_ends P z fuel s.left x.machine s.ticks e (at_ready x.at)) (x.follows fuel))
 
   pub finish_spent : Spends P z t left m handle code s B (cells live) S → Settles s.g live live' → Grouped P z t fuel left m (charged_group fuel 0 s.ticks (counts_at frames s.g s.used)) B (cells live') S starts
   finish_spent x k = grouped_charge fuel 0 s.ticks x.machine (at_resting around x.at x.under refl same k) x.less (x.follows fuel)
 
-  pub finish_refused : {n : ℕ} (x : Reached P z t left m handle code s B (cells live) S) → 0 < s.ticks → outcome P z (next_action P x.machine x.machine.frames) x.machine ≡ stops n → Settles s.g live live'
-      → Grouped P z t fuel left m (stood n fuel s.ticks s.left (counts_at frames s.g s.used)) B (cells live') S starts
+  pub finish_refused : {o : Refusal} (x : Reached P z t left m handle code s B (cells live) S) → 0 < s.ticks → outcome P z (next_action P x.machine x.machine.frames) x.machine ≡ stops (number o) → Settles s.g live live'
+      → Grouped P z t fuel left m (stood (stand.Refused o) fuel s.ticks s.left (counts_at frames s.g s.used)) B (cells live') S starts
   finish_refused x lt e k = grouped_stop x.machine s.ticks s.left (x.follows fuel) x.less lt (at_ready x.at) e (at_resting around x.at x.under refl same k) low
 
 module _ {P : Program} {z : Sizes} {t left : ℕ} {m : M} {handle code frames : ℕ} {B L S : List Cell} {starts : List ℕ} {s : Slice} (around : Around P z frames L S starts m) (x : Reached P z t left m handle code s B L S) where

@@ -1,5 +1,5 @@
 -- One law for each return of a group, and the loop of a run.
-use Rattle.std.specs.Prelude.{◌≡◌, refl, List, Bool, true, false, ℕ, ◌+◌, ◌-◌, ◌<◌, ◌≤◌, pos, get_or, eqb}
+use Rattle.std.specs.Prelude.{◌≡◌, refl, List, Bool, true, false, ℕ, ◌+◌, ◌-◌, ◌<◌, ◌≤◌, pos, get_or, eqb, Result}
 use Rattle.std.proofs.Common.{sym, ap, subst, ◌∙◌, ne_eqb}
 use native.Mathlib.Omega.{arith}
 use Rattle.cells.specs.Cells.{null, cells}
@@ -19,8 +19,11 @@ use Rattle.slices.specs.Sliced.{Slices}
 use Rattle.slices.specs.declared.Slice.{Slice}
 use Rattle.acts.specs.Acted.{Bounded, Resting}
 use Rattle.closing.specs.Closed.{PerformsCallback}
+use Rattle.refusals.specs.declared.Refusal.{Refusal}
 use Rattle.acts.specs.declared.Acted.{Acted}
-use Rattle.groups.specs.Grouped.{stood, acted_group, rest_of, Came, Groups, LuciaGroups, Finishes, Ran}
+use Rattle.groups.specs.declared.Stand.{Stand}
+use Rattle.groups.specs.declared.Stand.TheVariants as stand
+use Rattle.groups.specs.Grouped.{code_of, stood, acted_group, rest_of, Came, Groups, LuciaGroups, Finishes, Ran}
 use Rattle.groups.specs.GroupedLaws.{acted_uses, done_ends, wait_ends, pause_ends, grouped_end, grouped_acted, alone_charges}
 use Rattle.groups.specs.FinishLaws.{room_same}
 use Rattle.groups.specs.TopLaws.{ResultKind, count_is, empty_done, result_done, next_top, host_waits, other_ready, callback_next, lucia_next, at_open}
@@ -55,30 +58,30 @@ lucia_groups {c = c} {t = t} {left} {handle = handle} {code} {starts = starts} n
 -- ---- A group
 module _ {P : Program} {c : Counts} {fuel : Fuel} {t left : ℕ} {r : Group} {state live store starts : List ℕ} where
   -- the run ends where it stands
-  at_once : {f : Fuel} (n : ℕ) (b : Bool) → (n ≡ 0 → ⊥) → eqb n 103 ≡ b → r ≡ stood n f t left c
-      → ((z : Sizes) (m : M) → Resting P z m c (cells state) (cells live) (cells store) starts → run P z t fuel left m ≡ ends n nothing f (world m b left)) → Groups P c fuel t left r state live store starts state live store starts
-  at_once {f} n b some w q h = record {
+  at_once : {f : Fuel} (s : Stand) (b : Bool) → (code_of s ≡ 0 → ⊥) → eqb (code_of s) 103 ≡ b → r ≡ stood s f t left c
+      → ((z : Sizes) (m : M) → Resting P z m c (cells state) (cells live) (cells store) starts → run P z t fuel left m ≡ ends (code_of s) nothing f (world m b left)) → Groups P c fuel t left r state live store starts state live store starts
+  at_once {f} s b some w q h = record {
     acts = λ z m x low.
         let e : t - t ≡ 0 = omega arith in
-        rw q (grouped_end n m some x (omega arith) low (rw (e, w, ← h z m x) (follows_none (run P z t fuel left m))));
+        rw q (grouped_end s m some x (omega arith) low (rw (e, w, ← h z m x) (follows_none (run P z t fuel left m))));
     bounded = bounded_none state live store starts;
     appends = subst (λ (x : Group). Appends c.store x.counts.store store store) (sym q) (appends_refl c.store store);
   }
 
-  pub group_empty : c.frames ≡ 0 → r ≡ stood 100 fuel t left c → Groups P c fuel t left r state live store starts state live store starts
-  group_empty e q = at_once 100 false (λ h. omega (arith, h)) refl q (λ z m x. done_ends P z fuel left m t (empty_done x e))
+  pub group_empty : c.frames ≡ 0 → r ≡ stood stand.Done fuel t left c → Groups P c fuel t left r state live store starts state live store starts
+  group_empty e q = at_once stand.Done false (λ h. omega (arith, h)) refl q (λ z m x. done_ends P z fuel left m t (empty_done x e))
 
-  pub group_result : {k : ℕ} → ResultKind (cells state) k → (k ≡ 0 → ⊥) → r ≡ stood 100 fuel t left c → Groups P c fuel t left r state live store starts state live store starts
-  group_result h n q = at_once 100 false (λ h. omega (arith, h)) refl q (λ z m x. done_ends P z fuel left m t (result_done x h n))
+  pub group_result : {k : ℕ} → ResultKind (cells state) k → (k ≡ 0 → ⊥) → r ≡ stood stand.Done fuel t left c → Groups P c fuel t left r state live store starts state live store starts
+  group_result h n q = at_once stand.Done false (λ h. omega (arith, h)) refl q (λ z m x. done_ends P z fuel left m t (result_done x h n))
 
   module _ {k base tag : ℕ} (n : c.frames ≡ 0 → ⊥) (h : ResultKind (cells state) k) (e : k ≡ 0) (b : base ≡ get_or starts (c.frames - 1) 0) (a : tag ≡ (get_or (cells live) base null).tag) where
-    pub group_waits : {f : Fuel} → tag ≡ 65 → f ≡ consume fuel (pos 8) → r ≡ stood 103 f t left c → Groups P c fuel t left r state live store starts state live store starts
-    group_waits w y q = at_once 103 true (λ h. omega (arith, h)) refl q (λ z m x. wait_ends P z fuel left m t (host_waits x (next_top x n h e b) (sym a ∙ w)) ∙ ap (λ (f : Fuel). ends 103 nothing f (world m true left)) (sym y))
+    pub group_waits : {f : Fuel} → tag ≡ 65 → f ≡ consume fuel (pos 8) → r ≡ stood stand.Host f t left c → Groups P c fuel t left r state live store starts state live store starts
+    group_waits w y q = at_once stand.Host true (λ h. omega (arith, h)) refl q (λ z m x. wait_ends P z fuel left m t (host_waits x (next_top x n h e b) (sym a ∙ w)) ∙ ap (λ (f : Fuel). ends 103 nothing f (world m true left)) (sym y))
 
-    pub group_pauses : (tag ≡ 65 → ⊥) → t ≡ 0 → r ≡ stood 102 fuel t left c → Groups P c fuel t left r state live store starts state live store starts
-    group_pauses w y q = at_once 102 false (λ h. omega (arith, h)) refl q (λ z m x. pause_ends P z fuel left m t y (other_ready x (next_top x n h e b) (λ j. w (a ∙ j))))
+    pub group_pauses : (tag ≡ 65 → ⊥) → t ≡ 0 → r ≡ stood stand.Paused fuel t left c → Groups P c fuel t left r state live store starts state live store starts
+    group_pauses w y q = at_once stand.Paused false (λ h. omega (arith, h)) refl q (λ z m x. pause_ends P z fuel left m t y (other_ready x (next_top x n h e b) (λ j. w (a ∙ j))))
 
-    pub group_performs : {o : Acted} {state' live' store' starts' : List ℕ} → (tag ≡ 65 → ⊥) → 0 < t → tag ≡ 66 → PerformsCallback P c o state live store starts state' live' store' starts' → r ≡ acted_group o fuel 8 t left c
+    pub group_performs : {o : Result Acted Refusal} {state' live' store' starts' : List ℕ} → (tag ≡ 65 → ⊥) → 0 < t → tag ≡ 66 → PerformsCallback P c o state live store starts state' live' store' starts' → r ≡ acted_group o fuel 8 t left c
         → Groups P c fuel t left r state live store starts state' live' store' starts'
     group_performs {o} {store' = store'} w lt y p q = record {
       acts = λ z m x low.
@@ -100,12 +103,12 @@ module _ {P : Program} {c : Counts} {fuel : Fuel} {t left : ℕ} {r : Group} {st
 -- ---- The loop of a run
 module _ {P : Program} {z : Sizes} {t : ℕ} {fuel : Fuel} {left : ℕ} {m : M} where
   -- none yet
-  pub came_none : {c : Counts} {B L S : List Cell} {starts : List ℕ} → Resting P z m c B L S starts → left ≤ 64 → Came P z t fuel left m (stood 0 fuel t left c) B L S starts
+  pub came_none : {c : Counts} {B L S : List Cell} {starts : List ℕ} → Resting P z m c B L S starts → left ≤ 64 → Came P z t fuel left m (stood stand.GoesOn fuel t left c) B L S starts
   unfolding rest_of
   came_none x low = let e : t - t ≡ 0 = omega arith in record { machine = m; resting = x; less = omega arith; low = low; follows = rw e (follows_none (run P z t fuel left m)) }
 
   -- one group more
-  pub came_more : {r r' : Group} {state live store starts state' live' store' starts' : List ℕ} → Came P z t fuel left m r (cells state) (cells live) (cells store) starts → r.code ≡ 0
+  pub came_more : {r r' : Group} {state live store starts state' live' store' starts' : List ℕ} → Came P z t fuel left m r (cells state) (cells live) (cells store) starts → code_of r.stand ≡ 0
       → Groups P r.counts r.fuel r.ticks r.left r' state live store starts state' live' store' starts' → Came P z t fuel left m r' (cells state') (cells live') (cells store') starts'
   unfolding rest_of
   came_more {r} {r'} g e h =
@@ -119,6 +122,6 @@ module _ {P : Program} {z : Sizes} {t : ℕ} {fuel : Fuel} {left : ℕ} {m : M} 
         follows = follows_on f n.follows (omega (arith, g.less, n.less));
       }
 
-  pub came_ran : {r : Group} {B L S : List Cell} {starts : List ℕ} → Came P z t fuel left m r B L S starts → (r.code ≡ 0 → ⊥) → Ran P z t fuel left m r B L S starts
+  pub came_ran : {r : Group} {B L S : List Cell} {starts : List ℕ} → Came P z t fuel left m r B L S starts → (code_of r.stand ≡ 0 → ⊥) → Ran P z t fuel left m r B L S starts
   unfolding rest_of
-  came_ran {r} g n = record { machine = g.machine; resting = g.resting; less = g.less; over = n; follows = rw (ne_eqb r.code 0 n) at g.follows }
+  came_ran {r} g n = record { machine = g.machine; resting = g.resting; less = g.less; over = n; follows = rw (ne_eqb (code_of r.stand) 0 n) at g.follows }

@@ -1,5 +1,5 @@
 -- One group of a run, and the run: what is left of the definition's run after it.
-use Rattle.std.specs.Prelude.{◌≡◌, List, ◌∷◌, ℕ, ◌-◌, ◌<◌, ◌≤◌, pos, length, eqb}
+use Rattle.std.specs.Prelude.{◌≡◌, List, ◌∷◌, ℕ, ◌-◌, ◌<◌, ◌≤◌, pos, length, eqb, Result, Ok, Err}
 use Rattle.cells.specs.Cells.{cells}
 use Rattle.cells.specs.declared.Cell.{Cell}
 use Rattle.fuel.specs.Fuels.{consume, should_continue}
@@ -17,32 +17,45 @@ use Rattle.slices.specs.Sliced.{Ended}
 use Rattle.slices.specs.declared.Slice.{Slice}
 use Rattle.acts.specs.Acted.{Bounded, Resting}
 use Rattle.acts.specs.declared.Acted.{Acted}
-use Rattle.acts.specs.declared.Acted.TheVariants.{Refused, Done, Failed}
+use Rattle.acts.specs.declared.Acted.TheVariants.{Done, Failed}
+use Rattle.refusals.specs.declared.Refusal.{Refusal}
+use Rattle.refusals.specs.Refusals.{number}
 use Rattle.groups.specs.declared.Group.{Group}
+use Rattle.groups.specs.declared.Stand.{Stand}
+use Rattle.groups.specs.declared.Stand.TheVariants as stand
 
-abbrev pub stood : ℕ → Fuel → ℕ → ℕ → Counts → Group
-stood code fuel ticks left c = record { code = code; fuel = fuel; ticks = ticks; left = left; counts = c }
+-- 0 while it goes on, or its answer
+abbrev pub code_of : Stand → ℕ
+code_of stand.GoesOn = 0
+code_of stand.Done = 100
+code_of stand.OutOfFuel = 101
+code_of stand.Paused = 102
+code_of stand.Host = 103
+code_of (stand.Refused r) = number r
+
+abbrev pub stood : Stand → Fuel → ℕ → ℕ → Counts → Group
+stood s fuel ticks left c = record { stand = s; fuel = fuel; ticks = ticks; left = left; counts = c }
 
 unfoldable pub charged_group : Fuel → ℕ → ℕ → Counts → Group
 charged_group fuel cost ticks c =
     let f = consume (consume fuel (pos cost)) (pos 4) in
-    if? (should_continue f) (stood 0 f ticks 64 c) (stood 101 f ticks 64 c)
+    if? (should_continue f) (stood stand.GoesOn f ticks 64 c) (stood stand.OutOfFuel f ticks 64 c)
 
-abbrev pub acted_group : Acted → Fuel → ℕ → ℕ → ℕ → Counts → Group
-acted_group (Refused n) fuel cost ticks left c = stood n fuel ticks left c
-acted_group (Done after) fuel cost ticks left c = charged_group fuel cost (ticks - 1) after
-acted_group (Failed after) fuel cost ticks left c = charged_group fuel 0 (ticks - 1) after
+abbrev pub acted_group : Result Acted Refusal → Fuel → ℕ → ℕ → ℕ → Counts → Group
+acted_group (Err r) fuel cost ticks left c = stood (stand.Refused r) fuel ticks left c
+acted_group (Ok (Done after)) fuel cost ticks left c = charged_group fuel cost (ticks - 1) after
+acted_group (Ok (Failed after)) fuel cost ticks left c = charged_group fuel 0 (ticks - 1) after
 
 -- what is left of the run: it goes on from the machine m, or ends
 unfoldable pub rest_of : Program → Sizes → Group → M → Trace
-rest_of P z r m = if? (eqb r.code 0) (run P z r.ticks r.fuel r.left m) (ends r.code nothing r.fuel (world m (eqb r.code 103) r.left))
+rest_of P z r m = if? (eqb (code_of r.stand) 0) (run P z r.ticks r.fuel r.left m) (ends (code_of r.stand) nothing r.fuel (world m (eqb (code_of r.stand) 103) r.left))
 
 -- the run of t ticks from m has come to where r says, and memory holds its machine at rest
 pub record Grouped (P : Program) (z : Sizes) (t : ℕ) (fuel : Fuel) (left : ℕ) (m : M) (r : Group) (B L S : List Cell) (starts : List ℕ) : Type 0 where
   pub machine : M
   pub resting : Resting P z machine r.counts B L S starts
   pub less : r.ticks ≤ t
-  pub falls : r.code ≡ 0 → r.ticks < t
+  pub falls : code_of r.stand ≡ 0 → r.ticks < t
   pub low : r.left ≤ 64
   pub follows : Follows (t - r.ticks) (run P z t fuel left m) (rest_of P z r machine)
 
@@ -122,8 +135,8 @@ pub record Ran (P : Program) (z : Sizes) (t : ℕ) (fuel : Fuel) (left : ℕ) (m
   pub machine : M
   pub resting : Resting P z machine r.counts B L S starts
   pub less : r.ticks ≤ t
-  pub over : r.code ≡ 0 → ⊥
-  pub follows : Follows (t - r.ticks) (run P z t fuel left m) (ends r.code nothing r.fuel (world machine (eqb r.code 103) r.left))
+  pub over : code_of r.stand ≡ 0 → ⊥
+  pub follows : Follows (t - r.ticks) (run P z t fuel left m) (ends (code_of r.stand) nothing r.fuel (world machine (eqb (code_of r.stand) 103) r.left))
 
 pub record Runs (P : Program) (c : Counts) (fuel : Fuel) (t left : ℕ) (r : Group) (state live store starts state' live' store' starts' : List ℕ) : Type 0 where
   pub acts : (z : Sizes) (m : M) → Resting P z m c (cells state) (cells live) (cells store) starts → left ≤ 64 → Ran P z t fuel left m r (cells state') (cells live') (cells store') starts'

@@ -1,5 +1,5 @@
 -- How a group ends: what is left of the run after it.
-use Rattle.std.specs.Prelude.{◌≡◌, List, Bool, pos, length, eqb}
+use Rattle.std.specs.Prelude.{◌≡◌, List, Bool, pos, length, eqb, Result, Ok, Err}
 use Rattle.std.proofs.Math.Path.{refl}
 use Rattle.std.proofs.Common.{ap, arith, ne_eqb}
 use Rattle.std.proofs.Math.Bool.{true, false}
@@ -13,7 +13,6 @@ use Rattle.machine.specs.Values.{Program}
 use Rattle.machine.specs.Machine.{M}
 use Rattle.machine.specs.Opcodes.{Action, next_action}
 use Rattle.machine.specs.Calls.{Sizes, does, stops, outcome, world, nothing, Trace, ends, is_done, is_host, is_ready, turn_of, Pace, closing, failing, alone, pace_of, charge, goes_on, no_ticks, tick, run}
-use Rattle.machine.specs.StepLaws.{Refusal}
 use Rattle.machine.proofs.StepLaws.{refusal_some, refusal_small, step_law, refused_step}
 use Rattle.machine.proofs.FormLaws.{MachineFits, step_fits}
 use Rattle.plan.specs.Rest.{counts_of}
@@ -21,22 +20,26 @@ use Rattle.plan.specs.declared.Counts.{Counts}
 use Rattle.slices.specs.Follows.{Follows, follows_on, follows_step, follows_stop}
 use Rattle.acts.specs.Acted.{used_then, Resting, ActsAs, Acts}
 use Rattle.acts.specs.declared.Acted.{Acted}
-use Rattle.acts.specs.declared.Acted.TheVariants.{Refused, Done, Failed}
-use Rattle.groups.specs.Grouped.{stood, charged_group, acted_group, rest_of, Grouped}
+use Rattle.acts.specs.declared.Acted.TheVariants.{Done, Failed}
+use Rattle.refusals.specs.declared.Refusal as refusals
+use Rattle.refusals.specs.Refusals.{number}
+use Rattle.groups.specs.declared.Stand.{Stand}
+use Rattle.groups.specs.declared.Stand.TheVariants as stand
+use Rattle.groups.specs.Grouped.{code_of, stood, charged_group, acted_group, rest_of, Grouped}
 
 -- ---- What a group leaves of the store is what its step leaves
 pub charged_counts : (fuel : Fuel) (cost ticks : ℕ) (c : Counts) → (charged_group fuel cost ticks c).counts ≡ c
 unfolding charged_group
 charged_counts fuel cost ticks c = by (should_continue (consume (consume fuel (pos cost)) (pos 4)))
   where
-    by : (b : Bool) → (if? b (stood 0 (consume (consume fuel (pos cost)) (pos 4)) ticks 64 c) (stood 101 (consume (consume fuel (pos cost)) (pos 4)) ticks 64 c)).counts ≡ c
+    by : (b : Bool) → (if? b (stood stand.GoesOn (consume (consume fuel (pos cost)) (pos 4)) ticks 64 c) (stood stand.OutOfFuel (consume (consume fuel (pos cost)) (pos 4)) ticks 64 c)).counts ≡ c
     by true = refl
     by false = refl
 
-pub acted_uses : (a : Acted) (fuel : Fuel) (cost ticks left : ℕ) (c : Counts) → (acted_group a fuel cost ticks left c).counts.store ≡ used_then c.store a
-acted_uses (Refused n) fuel cost ticks left c = refl
-acted_uses (Done after) fuel cost ticks left c = ap (λ (x : Counts). x.store) (charged_counts fuel cost (ticks - 1) after)
-acted_uses (Failed after) fuel cost ticks left c = ap (λ (x : Counts). x.store) (charged_counts fuel 0 (ticks - 1) after)
+pub acted_uses : (a : Result Acted refusals.Refusal) (fuel : Fuel) (cost ticks left : ℕ) (c : Counts) → (acted_group a fuel cost ticks left c).counts.store ≡ used_then c.store a
+acted_uses (Err n) fuel cost ticks left c = refl
+acted_uses (Ok (Done after)) fuel cost ticks left c = ap (λ (x : Counts). x.store) (charged_counts fuel cost (ticks - 1) after)
+acted_uses (Ok (Failed after)) fuel cost ticks left c = ap (λ (x : Counts). x.store) (charged_counts fuel 0 (ticks - 1) after)
 
 module _ (P : Program) (z : Sizes) (fuel : Fuel) (left : ℕ) (m : M) where
   -- ---- A run that ends at once
@@ -57,16 +60,16 @@ module _ (P : Program) (z : Sizes) (fuel : Fuel) (left : ℕ) (m : M) where
 
 module _ {P : Program} {z : Sizes} {t : ℕ} {fuel : Fuel} {left : ℕ} {m : M} {B L S : List Cell} {starts : List ℕ} where
   -- an answer other than 0 ends the run
-  pub grouped_end : {f : Fuel} {k l : ℕ} {c : Counts} (n : ℕ) (m' : M) → (n ≡ 0 → ⊥) → Resting P z m' c B L S starts → k ≤ t → l ≤ 64 → Follows (t - k) (run P z t fuel left m) (ends n nothing f (world m' (eqb n 103) l))
-      → Grouped P z t fuel left m (stood n f k l c) B L S starts
+  pub grouped_end : {f : Fuel} {k l : ℕ} {c : Counts} (s : Stand) (m' : M) → (code_of s ≡ 0 → ⊥) → Resting P z m' c B L S starts → k ≤ t → l ≤ 64 → Follows (t - k) (run P z t fuel left m) (ends (code_of s) nothing f (world m' (eqb (code_of s) 103) l))
+      → Grouped P z t fuel left m (stood s f k l c) B L S starts
   unfolding rest_of
-  grouped_end n m' some r le low f = record {
+  grouped_end s m' some r le low f = record {
     machine = m';
     resting = r;
     less = le;
     falls = λ e. absurd (some e);
     low = low;
-    follows = rw (ne_eqb n 0 some) f;
+    follows = rw (ne_eqb (code_of s) 0 some) f;
   }
 
   -- a charge goes on, or says that the fuel is out
@@ -75,22 +78,22 @@ module _ {P : Program} {z : Sizes} {t : ℕ} {fuel : Fuel} {left : ℕ} {m : M} 
   grouped_charge f cost k {c} m' r lt h = by (should_continue (consume (consume f (pos cost)) (pos 4))) h
     where
       by : (b : Bool) → Follows (t - k) (run P z t fuel left m) (if? b (run P z k (consume (consume f (pos cost)) (pos 4)) 64 m') (ends 101 nothing (consume (consume f (pos cost)) (pos 4)) (world m' false 64)))
-          → Grouped P z t fuel left m (if? b (stood 0 (consume (consume f (pos cost)) (pos 4)) k 64 c) (stood 101 (consume (consume f (pos cost)) (pos 4)) k 64 c)) B L S starts
+          → Grouped P z t fuel left m (if? b (stood stand.GoesOn (consume (consume f (pos cost)) (pos 4)) k 64 c) (stood stand.OutOfFuel (consume (consume f (pos cost)) (pos 4)) k 64 c)) B L S starts
       by true h = record { machine = m'; resting = r; less = omega arith; falls = λ e. lt; low = omega arith; follows = h }
-      by false h = grouped_end 101 m' (λ e. omega (arith, e)) r (omega arith) (omega arith) h
+      by false h = grouped_end stand.OutOfFuel m' (λ e. omega (arith, e)) r (omega arith) (omega arith) h
 
 -- ---- A step that closes its slice, or a callback
 -- the run from m₀ has come to m with k ticks left, and m is ready for a step
 module _ {P : Program} {z : Sizes} {t : ℕ} {fuel : Fuel} {left : ℕ} {m₀ : M} (m : M) (k l : ℕ) (f : Follows (t - k) (run P z t fuel left m₀) (run P z k fuel l m)) (le : k ≤ t) (lt : 0 < k) (ready : turn_of m.result m.frames ≡ is_ready)
     {B L S : List Cell} {starts : List ℕ} where
   -- the step is refused
-  pub grouped_stop : {n : ℕ} {c : Counts} → outcome P z (next_action P m m.frames) m ≡ stops n → Resting P z m c B L S starts → l ≤ 64 → Grouped P z t fuel left m₀ (stood n fuel k l c) B L S starts
-  grouped_stop {n} e r low =
-      let q = refused_step P z _ m n (rw e at (step_law P z m ready)) in
-      let s = refusal_small n q in
-      let o = refusal_some n q in
-      let w : eqb n 103 ≡ false = ne_eqb n 103 (λ h. omega arith) in
-      grouped_end n m (λ h. omega arith) r le low (rw (w, ← follows_stop P z fuel l m k lt ready e) f)
+  pub grouped_stop : {o : refusals.Refusal} {c : Counts} → outcome P z (next_action P m m.frames) m ≡ stops (number o) → Resting P z m c B L S starts → l ≤ 64 → Grouped P z t fuel left m₀ (stood (stand.Refused o) fuel k l c) B L S starts
+  grouped_stop {o = x} e r low =
+      let q = refused_step P z _ m (number x) (rw e at (step_law P z m ready)) in
+      let s = refusal_small (number x) q in
+      let o = refusal_some (number x) q in
+      let w : eqb (number x) 103 ≡ false = ne_eqb (number x) 103 (λ h. omega arith) in
+      grouped_end (stand.Refused x) m (λ h. omega arith) r le low (rw (w, ← follows_stop P z fuel l m k lt ready e) f)
 
   -- it is accepted, and its pace charges so much
   pub grouped_step : {d : Action} {after : M} {c : Counts} (cost : ℕ) → outcome P z (next_action P m m.frames) m ≡ does d after
@@ -131,11 +134,11 @@ module _ {P : Program} {z : Sizes} {m : M} (accepted : Accepted P.image P.codes)
 module _ {P : Program} {z : Sizes} {t : ℕ} {fuel : Fuel} {left : ℕ} {m₀ : M} (m : M) (k l : ℕ) (f : Follows (t - k) (run P z t fuel left m₀) (run P z k fuel l m)) (le : k ≤ t) (lt : 0 < k)
     (accepted : Accepted P.image P.codes) (small : z.live ≤ 4096) (fits : MachineFits P z m) (ready : turn_of m.result m.frames ≡ is_ready) (low : l ≤ 64)
     {B L S : List Cell} {starts : List ℕ} (store : z.store < 4294967296) (room : length L ≡ z.live) (room_store : length S ≡ z.store) (table : length starts ≡ 256) where
-  pub grouped_acted : {c : Counts} (pace : Pace) (cost : ℕ) (a : Acted) → ((p : Pace) (after : M) → p ≡ pace → goes_on (run P z (k - 1)) fuel l after p ≡ charge (run P z (k - 1)) fuel cost after)
+  pub grouped_acted : {c : Counts} (pace : Pace) (cost : ℕ) (a : Result Acted refusals.Refusal) → ((p : Pace) (after : M) → p ≡ pace → goes_on (run P z (k - 1)) fuel l after p ≡ charge (run P z (k - 1)) fuel cost after)
       → c ≡ counts_of m → Acts P z m pace a B L S starts → Grouped P z t fuel left m₀ (acted_group a fuel cost k l c) B L S starts
-  grouped_acted pace cost (Refused n) g e h =
+  grouped_acted pace cost (Err n) g e h =
       let r : Resting P z m (counts_of m) B L S starts = record { rests = h.1; fits = fits; room = room; room_store = room_store; accepted = accepted; small = small; low = store; table = table } in
       rw e (grouped_stop m k l f le lt ready h.0 r low)
-  grouped_acted pace cost (Done c) g e h = grouped_step m k l f le lt ready cost h.is (g (pace_of h.action) h.after h.paces) (acts_resting accepted small fits ready h store room room_store table)
-  grouped_acted pace cost (Failed c) g e h =
+  grouped_acted pace cost (Ok (Done c)) g e h = grouped_step m k l f le lt ready cost h.is (g (pace_of h.action) h.after h.paces) (acts_resting accepted small fits ready h store room room_store table)
+  grouped_acted pace cost (Ok (Failed c)) g e h =
       grouped_step m k l f le lt ready 0 h.is (failing_charges (run P z (k - 1)) fuel l h.after h.paces) (acts_resting accepted small fits ready h store room room_store table)

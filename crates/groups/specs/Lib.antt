@@ -1,5 +1,6 @@
 -- Groups and runs.
 pub mod Grouped
+pub mod StandLaws
 pub mod GroupedLaws
 pub mod FinishLaws
 pub mod EndLaws

@@ -1,18 +1,15 @@
 -- What groups require of the functions that they call.
-use Rattle.std.specs.Prelude.{◌≡◌, refl, List, ◌∷◌, ℕ, ◌+◌, ◌-◌, ◌<◌, ◌≤◌, length, get_or}
+use Rattle.std.specs.Prelude.{◌≡◌, refl, List, ℕ, ◌+◌, ◌-◌, ◌<◌, ◌≤◌, length, get_or}
 use Rattle.std.proofs.Math.Path.{sym, subst}
 use Rattle.std.proofs.Common.{ap, ◌∙◌, arith, length-append}
 use Rattle.cells.specs.Cells.{null, room, cells}
 use Rattle.cells.specs.CellsLaws.{length_cells}
 use Rattle.cells.specs.declared.Cell.{Cell}
 use Rattle.image.specs.Fine.{Accepted}
-use Rattle.machine.specs.Values as v
-use Rattle.machine.specs.Values.{Program, code_of}
-use Rattle.machine.specs.Machine.{Frame, lucia, Object, closure, M, Lookup, here, object_at}
-use Rattle.machine.specs.Opcodes.{Running, throws, takes, next_action}
+use Rattle.machine.specs.Values.{Program}
+use Rattle.machine.specs.Machine.{closure, M, Lookup, here}
+use Rattle.machine.specs.Opcodes.{Running, throws}
 use Rattle.machine.specs.Calls.{Sizes, handlers_left}
-use Rattle.machine.specs.Demand.{All}
-use Rattle.machine.specs.Formed.{FrameFormed}
 use Rattle.machine.proofs.Formed.{all_map}
 use Rattle.machine.proofs.FormedLaws.{next_formed, taken_formed}
 use Rattle.machine.proofs.FormLaws.{MachineFits}
@@ -22,7 +19,7 @@ use Rattle.memory.proofs.StoreLaws.{length_object}
 use Rattle.moves.specs.Objects.{object_there}
 use Rattle.moves.specs.Runs.{end_of, opened, top_length}
 use Rattle.moves.specs.declared.Running as registers
-use Rattle.plan.specs.Inside.{Threw, left}
+use Rattle.plan.specs.Inside.{left}
 use Rattle.plan.specs.declared.Counts.{Counts}
 use Rattle.plan.specs.declared.Error.{Error}
 use Rattle.steps.specs.Stepped.{ClosingNumber}
@@ -32,9 +29,9 @@ use Rattle.slices.specs.Sliced.{At, Ended, Sliceable, Slices}
 use Rattle.slices.specs.declared.End.{End}
 use Rattle.slices.specs.declared.End.TheVariants.{Paused, Spent, Refused, Throws, Closes}
 use Rattle.slices.specs.declared.Slice.{Slice}
-use Rattle.acts.specs.Acted.{Opcode, Failable, Resting, Thrown}
+use Rattle.acts.specs.Acted.{Failable, Thrown}
 use Rattle.closing.specs.Closed.{closing_number, Closable, Callbackable}
-use Rattle.groups.specs.Grouped.{Around, Groupable, LuciaGroupable, LuciaTop, Finishable}
+use Rattle.groups.specs.Grouped.{Groupable, LuciaGroupable, Finishable}
 use Rattle.groups.specs.FinishLaws.{busy_at, finish_busy}
 use Rattle.groups.specs.TopLaws.{ResultKind, count_is, next_top, top_fits, callback_next, lucia_next, at_open}
 
@@ -87,9 +84,6 @@ module _ {P : Program} {frames : ℕ} {s : Slice} {state live store starts args 
   pub finish_ends : end_of s.g < 18446744073709551616
   finish_ends = omega (arith, at_end there.at, there.at.inside.room, f.around.small)
 
-  pub finish_ticks : {h : registers.Running} {x : Error} → s.end ≡ Throws h x → 0 < s.ticks
-  finish_ticks e = (subst (λ (n : End). Ended P f.sizes f.ticks f.begun f.machine f.handle f.code s n (cells state) (cells live) (cells store)) e f.ended).1
-
   pub finish_fails : {h : registers.Running} {x : Error} → s.end ≡ Throws h x → Failable P frames s.used s.g h x state live store starts
   unfolding finish_busy busy_at
   finish_fails e =
@@ -122,21 +116,8 @@ module _ {P : Program} {frames : ℕ} {s : Slice} {state live store starts args 
         values = f.values;
       }
 
-  pub finish_left : {k : Closing} {x : ℕ} → s.end ≡ Closes k x → 0 < s.ticks
-  finish_left e = (subst (λ (n : End). Ended P f.sizes f.ticks f.begun f.machine f.handle f.code s n (cells state) (cells live) (cells store)) e f.ended).1
-
-module _ {P : Program} {frames : ℕ} {s : Slice} {state live store starts args : List ℕ} (f : Finishable P frames s state live store starts args) where
-  pub finish_throws : {h : registers.Running} {x : Error} → s.end ≡ Throws h x → (0 ≤ 64) × (0 < s.ticks)
-  finish_throws e = (omega arith, finish_ticks f e)
-
-  pub finish_charges : {k : Closing} {x : ℕ} → s.end ≡ Closes k x → (s.left ≤ 64) × (0 < s.ticks)
-  finish_charges e = (f.low, finish_left f e)
-
 -- ---- A group
 module _ {P : Program} {c : Counts} {left : ℕ} {state live store starts args : List ℕ} (f : Groupable P c left state live store starts args) where
-  pub group_within : (c.frames ≡ 0 → ⊥) → c.frames - 1 < length starts
-  group_within n = omega (arith, count_is f.resting, f.resting.fits.few, f.resting.table, n)
-
   module _ {k base : ℕ} (n : c.frames ≡ 0 → ⊥) (h : ResultKind (cells state) k) (e : k ≡ 0) (b : base ≡ get_or starts (c.frames - 1) 0) where
     pub group_base : base + 6 ≤ room live
     group_base = let x = next_top f.resting n h e b in omega (arith, top_fits f.resting x.frames b, length_cells live)
@@ -158,9 +139,6 @@ module _ {P : Program} {c : Counts} {left : ℕ} {state live store starts args :
 module _ {P : Program} {c : Counts} {left : ℕ} {state live store starts args : List ℕ} (f : LuciaGroupable P c left state live store starts args) where
   pub lucia_some : c.frames ≡ 0 → ⊥
   lucia_some e = omega (arith, e, count_is f.group.resting, ap length f.top.frames)
-
-  pub lucia_within : c.frames - 1 < length starts
-  lucia_within = group_within f.group lucia_some
 
   module _ {base : ℕ} (b : base ≡ get_or starts (c.frames - 1) 0) where
     pub lucia_base : base + 6 ≤ room live
@@ -205,13 +183,3 @@ module _ {P : Program} {c : Counts} {left : ℕ} {state live store starts args :
               len = w.same_state.len ∙ f.group.len;
               values = f.group.values;
             }
-
--- ---- Numbers
-module _ {P : Program} {c : Counts} {left : ℕ} {state live store starts args : List ℕ} where
-  pub group_small : Groupable P c left state live store starts args → (c.frames ≤ 256) × (length starts ≡ 256) × (room live ≤ 4096)
-  group_small f = (omega (arith, count_is f.resting, f.resting.fits.few), f.resting.table, omega (arith, length_cells live, f.resting.room, f.resting.small))
-
-  pub lucia_small : LuciaGroupable P c left state live store starts args → (c.frames ≤ 256) × (0 < c.frames) × (length starts ≡ 256) × (room live ≤ 4096)
-  lucia_small f =
-      let r = f.group.resting in
-      (omega (arith, count_is r, r.fits.few), omega (arith, count_is r, ap length f.top.frames), r.table, omega (arith, length_cells live, r.room, r.small))

@@ -8,7 +8,7 @@ use Rattle.std.proofs.Math.Seq.{get_or_at}
 use Rattle.cells.specs.Cells.{null}
 use Rattle.cells.specs.declared.Cell.{Cell}
 use Rattle.machine.specs.Values.{Program, code_of, Error, call_arguments, un_operator, bin_operator, meta_un_operator, meta_bin_operator, zero_divisor, lucia_error, lucia_panic}
-use Rattle.machine.specs.Machine.{Frame, lucia, host, effect_callback, closure, Result, running, returned, failed, unhandled, M, used}
+use Rattle.machine.specs.Machine.{Frame, lucia, host, effect_callback, Result, running, returned, failed, unhandled, M, used}
 use Rattle.machine.specs.Calls.{Sizes, World, is_done, is_host, is_ready, turn_of}
 use Rattle.memory.specs.Layout.{written, frame_cells, flat, object_cells, error_shown, result_shown, state_cells}
 use Rattle.moves.specs.Runs.{opened}

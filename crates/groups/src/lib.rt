@@ -2,29 +2,57 @@
 #![tactic(auto)]
 
 ghost use Rattle.std.specs.Prelude.{◌≡◌, ◌≤◌, ◌<◌, pos};
-ghost use Rattle.scan.specs.Tables.{program_in};
-ghost use Rattle.groups.specs.Grouped.{stood, charged_group, acted_group, Groupable, LuciaGroupable, Groups, LuciaGroups, Finishable, Finishes, Runs};
+ghost use Rattle.scan.specs.Tables.{program_of};
+ghost use Rattle.groups.specs.Grouped.{code_of, stood, charged_group, acted_group, Groupable, LuciaGroupable, Groups, LuciaGroups, Finishable, Finishes, Runs};
 
 use acts::Acted;
 use fuel::Fuel;
 use plan::Counts;
+use refusals::Refusal;
 use slices::{End, Slice};
 
-// Where a run stands: 0 to go on, or its answer; fuel, ticks and slice that are left; what the machine has.
+// Where a run stands: it goes on, ends with an answer, or is refused.
+#[derive(Clone, Copy)]
+pub enum Stand {
+    GoesOn,
+    Done,
+    OutOfFuel,
+    Paused,
+    Host,
+    Refused(Refusal),
+}
+
+impl Stand {
+    // The code of docs/ANSWERS.md, which is what C gets once the run is over; 0 while it goes on.
+    pub fn code(self) -> u32
+        ensures { result ≡ code_of self }
+    {
+        match self {
+            Stand::GoesOn => 0,
+            Stand::Done => 100,
+            Stand::OutOfFuel => 101,
+            Stand::Paused => 102,
+            Stand::Host => 103,
+            Stand::Refused(refusal) => refusal.number(),
+        }
+    }
+}
+
+// Where a run stands; fuel, ticks and slice that are left; what the machine has.
 #[derive(Clone, Copy)]
 pub struct Group {
-    pub code: u32,
+    pub stand: Stand,
     pub fuel: Fuel,
     pub ticks: u32,
     pub left: u32,
     pub counts: Counts,
 }
 
-fn stands(code: u32, fuel: Fuel, ticks: u32, left: u32, counts: Counts) -> Group
-    ensures { result ≡ stood code fuel ticks left counts }
+fn stands(stand: Stand, fuel: Fuel, ticks: u32, left: u32, counts: Counts) -> Group
+    ensures { result ≡ stood stand fuel ticks left counts }
 {
     Group {
-        code,
+        stand,
         fuel,
         ticks,
         left,
@@ -39,30 +67,33 @@ fn charged(fuel: Fuel, cost: u32, ticks: u32, counts: Counts) -> Group
 {
     let f = fuel.consume(cost as i32).consume(4);
     if f.should_continue() {
-        return stands(0, f, ticks, 64, counts);
+        return stands(Stand::GoesOn, f, ticks, 64, counts);
     }
-    stands(101, f, ticks, 64, counts)
+    stands(Stand::OutOfFuel, f, ticks, 64, counts)
 }
 
 // A step that closes its slice charges `cost`; one that threw its own error charges 4 only; a refused one takes no tick.
-fn acted(a: Acted, fuel: Fuel, cost: u32, ticks: u32, left: u32, counts: Counts) -> Group
+fn acted(
+    a: Result<Acted, Refusal>,
+    fuel: Fuel,
+    cost: u32,
+    ticks: u32,
+    left: u32,
+    counts: Counts,
+) -> Group
     requires { (cost ≤ 64) × (0 < ticks) }
     ensures { result ≡ acted_group a fuel cost ticks left counts }
 {
     match a {
-        Acted::Refused(n) => stands(n, fuel, ticks, left, counts),
-        Acted::Done(after) => charged(fuel, cost, ticks - 1, after),
-        Acted::Failed(after) => charged(fuel, 0, ticks - 1, after),
+        Err(refusal) => stands(Stand::Refused(refusal), fuel, ticks, left, counts),
+        Ok(Acted::Done(after)) => charged(fuel, cost, ticks - 1, after),
+        Ok(Acted::Failed(after)) => charged(fuel, 0, ticks - 1, after),
     }
 }
 
 // What follows a slice.
 fn finish(
-    image: &[u8],
-    rows: &[u32],
-    constants: &[u32],
-    inner: &[u32],
-    codes: usize,
+    program: &lookups::Program,
     state: &mut [u8],
     live: &mut [u8],
     store: &mut [u8],
@@ -72,8 +103,8 @@ fn finish(
     s: Slice,
     fuel: Fuel,
 ) -> Group
-    requires { Finishable (program_in image.now rows.now constants.now inner.now codes) frames s state.old live.old store.old starts.old args.old }
-    ensures { Finishes (program_in image.now rows.now constants.now inner.now codes) frames s fuel result state.old live.old store.old starts.old state.new live.new store.new starts.new }
+    requires { Finishable (program_of program.now) frames s state.old live.old store.old starts.old args.old }
+    ensures { Finishes (program_of program.now) frames s fuel result state.old live.old store.old starts.old state.new live.new store.new starts.new }
 {
     let g = s.g;
     let counts = Counts {
@@ -85,27 +116,23 @@ fn finish(
     match end {
         End::Paused => {
             moves::settle(live, g);
-            stands(102, fuel, s.ticks, s.left, counts)
+            stands(Stand::Paused, fuel, s.ticks, s.left, counts)
         }
         End::Spent => {
             moves::settle(live, g);
             charged(fuel, 0, s.ticks, counts)
         }
-        End::Refused(n) => {
+        End::Refused(refusal) => {
             moves::settle(live, g);
-            stands(n, fuel, s.ticks, s.left, counts)
+            stands(Stand::Refused(refusal), fuel, s.ticks, s.left, counts)
         }
         End::Throws(h, x) => {
-            let a = acts::fail(
-                image, rows, constants, inner, codes, state, live, store, starts, frames, s.used,
-                g, h, x,
-            );
-            acted(a, fuel, 0, s.ticks, s.left, counts)
+            let thrown = acts::fail(program, state, live, store, starts, frames, s.used, g, h, x);
+            acted(thrown.map(Acted::Failed), fuel, 0, s.ticks, s.left, counts)
         }
         End::Closes(k, x) => {
             let a = closing::close(
-                k, image, rows, constants, inner, codes, state, live, store, starts, args, frames,
-                s.used, g, x,
+                k, program, state, live, store, starts, args, frames, s.used, g, x,
             );
             acted(a, fuel, s.left, s.ticks, s.left, counts)
         }
@@ -114,11 +141,7 @@ fn finish(
 
 // A slice of the Lucia frame at the top.
 fn lucia_group(
-    image: &[u8],
-    rows: &[u32],
-    constants: &[u32],
-    inner: &[u32],
-    codes: usize,
+    program: &lookups::Program,
     state: &mut [u8],
     live: &mut [u8],
     store: &mut [u8],
@@ -129,8 +152,8 @@ fn lucia_group(
     left: u32,
     c: Counts,
 ) -> Group
-    requires { LuciaGroupable (program_in image.now rows.now constants.now inner.now codes) c left state.old live.old store.old starts.old args.old × (0 < ticks) }
-    ensures { LuciaGroups (program_in image.now rows.now constants.now inner.now codes) c fuel ticks left result state.old live.old store.old starts.old state.new live.new store.new starts.new }
+    requires { LuciaGroupable (program_of program.now) c left state.old live.old store.old starts.old args.old × (0 < ticks) }
+    ensures { LuciaGroups (program_of program.now) c fuel ticks left result state.old live.old store.old starts.old state.new live.new store.new starts.new }
 {
     let last = c.frames - 1;
     let base = starts[last] as usize;
@@ -138,21 +161,14 @@ fn lucia_group(
     let handle = cells::number(live, base + 1) as usize;
     let code = cells::number(store, handle) as usize;
     let s = slices::run_slice(
-        image, rows, constants, inner, codes, state, live, store, g, handle, code, c.store, left,
-        ticks,
+        program, state, live, store, g, handle, code, c.store, left, ticks,
     );
-    finish(
-        image, rows, constants, inner, codes, state, live, store, starts, args, c.frames, s, fuel,
-    )
+    finish(program, state, live, store, starts, args, c.frames, s, fuel)
 }
 
 // One slice, one effect callback or the opening of a wait, or nothing where the run is done or no tick is left.
 pub fn run_group(
-    image: &[u8],
-    rows: &[u32],
-    constants: &[u32],
-    inner: &[u32],
-    codes: usize,
+    program: &lookups::Program,
     state: &mut [u8],
     live: &mut [u8],
     store: &mut [u8],
@@ -163,43 +179,36 @@ pub fn run_group(
     left: u32,
     c: Counts,
 ) -> Group
-    requires { Groupable (program_in image.now rows.now constants.now inner.now codes) c left state.old live.old store.old starts.old args.old }
-    ensures { Groups (program_in image.now rows.now constants.now inner.now codes) c fuel ticks left result state.old live.old store.old starts.old state.new live.new store.new starts.new }
+    requires { Groupable (program_of program.now) c left state.old live.old store.old starts.old args.old }
+    ensures { Groups (program_of program.now) c fuel ticks left result state.old live.old store.old starts.old state.new live.new store.new starts.new }
 {
     if c.frames == 0 {
-        return stands(100, fuel, ticks, left, c);
+        return stands(Stand::Done, fuel, ticks, left, c);
     }
     if states::result_kind(state) != 0 {
-        return stands(100, fuel, ticks, left, c);
+        return stands(Stand::Done, fuel, ticks, left, c);
     }
     let last = c.frames - 1;
     let base = starts[last] as usize;
     let kind = cells::tag(live, base);
     if kind == 65 {
-        return stands(103, fuel.consume(8), ticks, left, c);
+        return stands(Stand::Host, fuel.consume(8), ticks, left, c);
     }
     if ticks == 0 {
-        return stands(102, fuel, ticks, left, c);
+        return stands(Stand::Paused, fuel, ticks, left, c);
     }
     if kind == 66 {
-        let a = closing::effect_callback(
-            image, rows, constants, inner, codes, state, live, store, starts, args, c,
-        );
+        let a = closing::effect_callback(program, state, live, store, starts, args, c);
         return acted(a, fuel, 8, ticks, left, c);
     }
     lucia_group(
-        image, rows, constants, inner, codes, state, live, store, starts, args, fuel, ticks, left,
-        c,
+        program, state, live, store, starts, args, fuel, ticks, left, c,
     )
 }
 
 // Groups, until one says how the run ends.
 pub fn run(
-    image: &[u8],
-    rows: &[u32],
-    constants: &[u32],
-    inner: &[u32],
-    codes: usize,
+    program: &lookups::Program,
     state: &mut [u8],
     live: &mut [u8],
     store: &mut [u8],
@@ -210,14 +219,13 @@ pub fn run(
     left: u32,
     c: Counts,
 ) -> Group
-    requires { Groupable (program_in image.now rows.now constants.now inner.now codes) c left state.old live.old store.old starts.old args.old }
-    ensures { Runs (program_in image.now rows.now constants.now inner.now codes) c fuel ticks left result state.old live.old store.old starts.old state.new live.new store.new starts.new }
+    requires { Groupable (program_of program.now) c left state.old live.old store.old starts.old args.old }
+    ensures { Runs (program_of program.now) c fuel ticks left result state.old live.old store.old starts.old state.new live.new store.new starts.new }
 {
-    let mut r = stands(0, fuel, ticks, left, c);
-    while r.code == 0 {
+    let mut r = stands(Stand::GoesOn, fuel, ticks, left, c);
+    while let Stand::GoesOn = r.stand {
         r = run_group(
-            image, rows, constants, inner, codes, state, live, store, starts, args, r.fuel,
-            r.ticks, r.left, r.counts,
+            program, state, live, store, starts, args, r.fuel, r.ticks, r.left, r.counts,
         );
     }
     r

@@ -35,9 +35,9 @@ module _ {P : Program} {e : Cell} {g : Running} {L : List Cell} {j : ℕ} (m : M
     pub finds_here : t ≡ true → (w : Written) (pre : List Cell) → Top w pre g L → Finds P e w.handlers j
     finds_here f w pre o = record { most = omega (arith, o.counts.handlers); misses = m.misses w pre o; has = λ k. shows w pre o ∙ f }
 
-  pub finds_none : g.handlers ≤ j → (w : Written) (pre : List Cell) → Top w pre g L → Finds P e w.handlers j
+  pub finds_none : g.handlers ≤ j → (w : Written) (pre : List Cell) → Top w pre g L → Finds P e w.handlers g.handlers
   finds_none le w pre o = record {
-    most = omega (arith, m.most, o.counts.handlers);
-    misses = m.misses w pre o;
+    most = omega (arith, o.counts.handlers);
+    misses = λ i h. m.misses w pre o i (omega arith);
     has = λ k. absurd (omega (arith, o.counts.handlers));
   }

@@ -39,9 +39,10 @@ fn image(input: &mut impl Read, output: &mut impl Write) -> io::Result<bool> {
 fn main(rt: HostRuntime) -> io::Result<()> {
     let mut input = rt.stdin();
     let mut output = rt.stdout();
-    let mut images: u32 = 4000000000;
-    while images > 0 && image(&mut input, &mut output)? {
-        images -= 1;
+    for _ in 0..4000000000u32 {
+        if !image(&mut input, &mut output)? {
+            break;
+        }
     }
     Ok(())
 }

@@ -1,5 +1,5 @@
 -- Laws of Ints at any width: wrapping goes through sums, opposites and products and undoes `signed`; division and remainder are those of the integers.
-use Rattle.std.specs.Prelude.{◌≡◌, ℕ, zero, suc, ◌+◌, ◌-◌, ◌*◌, ◌/◌, ◌%◌, ◌<◌, ◌≤◌, Bool, true, false, cond, not, ℤ, pos, negsuc, ◌+ℤ◌, ◌-ℤ◌, ◌*ℤ◌, neg_ℤ, int_div, int_rem, nat_lt, unsigned_abs}
+use Rattle.std.specs.Prelude.{◌≡◌, ℕ, zero, suc, ◌+◌, ◌-◌, ◌*◌, ◌/◌, ◌%◌, ◌<◌, ◌≤◌, Bool, true, false, cond, not, Some, ℤ, pos, negsuc, ◌+ℤ◌, ◌-ℤ◌, ◌*ℤ◌, neg_ℤ, int_div, int_rem, nat_lt, unsigned_abs}
 use Rattle.std.proofs.Math.Path.{refl, sym, ap}
 use Rattle.std.proofs.Common.{◌∙◌, mul_comm}
 use Rattle.std.proofs.Math.Bool.{xor}
@@ -9,7 +9,6 @@ use native.Mathlib.Omega.{arith}
 use borrow.Author.Tests.{lt-ltb, le-ltb, ltb-true, ltb-false}
 use Rattle.std.proofs.Math.IntN.{sub_ℕ}
 use Rattle.std.specs.Int.Signed.{mag, non_neg}
-use Rattle.ints.specs.declared.Division.TheVariants.{Of}
 use Rattle.ints.specs.Ints.{signed, wrap, quotient, divided, with_sign, div, rem}
 use Rattle.ints.specs.Modulo.{opposite}
 use Rattle.ints.proofs.Modulo.{mod_times, times_mod, none_plus, opposite_none, is_opposite, opposite_mod, opposite_opposite, opposite_plus, opposite_times}
@@ -127,9 +126,9 @@ module _ (h : ℕ) where
   quotient_truncates (negsuc a) (pos b) = refl
   quotient_truncates (negsuc a) (negsuc b) = refl
 
-  pub div_truncates : (a b : ℕ) → div h a (suc b) ≡ Of (wrap h (int_div (signed h a) (signed h (suc b))))
+  pub div_truncates : (a b : ℕ) → div h a (suc b) ≡ Some (wrap h (int_div (signed h a) (signed h (suc b))))
   unfolding divided
-  div_truncates a b = ap Of (quotient_truncates (signed h a) (signed h (suc b)))
+  div_truncates a b = ap Some (quotient_truncates (signed h a) (signed h (suc b)))
 
   -- `Rem` takes the dividend's sign
   remainder_sign : (x y : ℤ) → with_sign h (not (non_neg x)) (unsigned_abs x % unsigned_abs y) ≡ wrap h (int_rem x y)
@@ -137,6 +136,6 @@ module _ (h : ℕ) where
   remainder_sign (pos a) y = refl
   remainder_sign (negsuc a) y = refl
 
-  pub rem_sign : (a b : ℕ) → rem h a (suc b) ≡ Of (wrap h (int_rem (signed h a) (signed h (suc b))))
+  pub rem_sign : (a b : ℕ) → rem h a (suc b) ≡ Some (wrap h (int_rem (signed h a) (signed h (suc b))))
   unfolding divided
-  rem_sign a b = ap Of (remainder_sign (signed h a) (signed h (suc b)))
+  rem_sign a b = ap Some (remainder_sign (signed h a) (signed h (suc b)))

@@ -1,9 +1,8 @@
 -- Rows of the test board and of the ends of 64 bits, by the definitions.
-use Rattle.std.specs.Prelude.{◌≡◌, ℕ, ◌+◌, ◌-◌, true, false, refl}
+use Rattle.std.specs.Prelude.{◌≡◌, ℕ, ◌+◌, ◌-◌, true, false, refl, Some, None}
 use Rattle.std.proofs.Math.Bool.{xor}
 use Rattle.std.specs.Int.{w64}
 use Rattle.std.proofs.Common.{to_z}
-use Rattle.ints.specs.declared.Division.TheVariants.{Of, ZeroDivisor}
 use Rattle.ints.specs.Ints.{half, signed, wrap, quotient, divided, with_sign, neg, add, sub, mul, div, rem, lt, le, gt, ge}
 
 -- the integer of a pattern is what the machine's signed operations read of the bits
@@ -22,17 +21,17 @@ abbrev minus : ℕ → ℕ
 minus n = half + half - n
 
 -- P11: -7 `Div` 2 is -3, `Rem` -1
-pub p11 : (div half (minus 7) 2 ≡ Of (minus 3)) × (rem half (minus 7) 2 ≡ Of (minus 1))
+pub p11 : (div half (minus 7) 2 ≡ Some (minus 3)) × (rem half (minus 7) 2 ≡ Some (minus 1))
 unfolding signed wrap quotient divided with_sign xor
 p11 = (refl, refl)
 
 -- the sign of the divisor counts for `Div` alone
-pub divisor_sign : (div half 7 (minus 2) ≡ Of (minus 3)) × (rem half 7 (minus 2) ≡ Of 1) × (div half (minus 7) (minus 2) ≡ Of 3)
+pub divisor_sign : (div half 7 (minus 2) ≡ Some (minus 3)) × (rem half 7 (minus 2) ≡ Some 1) × (div half (minus 7) (minus 2) ≡ Some 3)
 unfolding signed wrap quotient divided with_sign xor
 divisor_sign = (refl, refl, refl)
 
 -- the least Int by -1 gives itself, remainder 0; its opposite is itself; the greatest and 1 make it, and without 1 it is the greatest
-pub least_by_minus_one : (div half least (minus 1) ≡ Of least) × (rem half least (minus 1) ≡ Of 0)
+pub least_by_minus_one : (div half least (minus 1) ≡ Some least) × (rem half least (minus 1) ≡ Some 0)
 unfolding signed wrap quotient divided with_sign xor
 least_by_minus_one = (refl, refl)
 
@@ -41,7 +40,7 @@ unfolding signed wrap
 ends = (refl, refl, refl)
 
 -- a zero divisor throws, whatever is divided
-pub zero_divisor_lem : (a : ℕ) → (div half a 0 ≡ ZeroDivisor) × (rem half a 0 ≡ ZeroDivisor)
+pub zero_divisor_lem : (a : ℕ) → (div half a 0 ≡ None) × (rem half a 0 ≡ None)
 unfolding divided
 zero_divisor_lem a = (refl, refl)
 

@@ -1,10 +1,8 @@
 -- What the opcodes do with Ints: one definition for each, under the opcode's name, at any width. An Int is its pattern in two's complement, a number below h + h,
 -- where h is half the number of patterns; for the 64 bits of document 01 h is `half`. What stands in quotation marks is document 01's.
-use Rattle.std.specs.Prelude.{ℕ, zero, suc, ◌+◌, ◌-◌, ◌/◌, ◌%◌, Bool, cond, not, ℤ, pos, negsuc, ◌+ℤ◌, ◌-ℤ◌, ◌*ℤ◌, neg_ℤ, nat_abs, int_le, int_lt, nat_lt}
+use Rattle.std.specs.Prelude.{ℕ, zero, suc, ◌+◌, ◌-◌, ◌/◌, ◌%◌, Option, Some, None, Bool, cond, not, ℤ, pos, negsuc, ◌+ℤ◌, ◌-ℤ◌, ◌*ℤ◌, neg_ℤ, nat_abs, int_le, int_lt, nat_lt}
 use Rattle.std.specs.Bool.{xor}
 use Rattle.std.specs.Int.Signed.{non_neg}
-use Rattle.ints.specs.declared.Division.{Division}
-use Rattle.ints.specs.declared.Division.TheVariants.{Of, ZeroDivisor}
 
 -- 2^63, half the number of patterns of 64 bits
 abbrev pub half : ℕ
@@ -24,9 +22,9 @@ unfoldable pub quotient : ℕ → ℕ → ℕ
 quotient n d = n / d
 
 -- "a zero divisor throws": what a division by d gives, n where d is not 0
-unfoldable pub divided : ℕ → ℕ → Division
-divided zero n = ZeroDivisor
-divided (suc d) n = Of n
+unfoldable pub divided : ℕ → ℕ → Option ℕ
+divided zero n = None
+divided (suc d) n = Some n
 
 module _ (h : ℕ) where
   -- the sign and the magnitude of an Int, and the Int that has them
@@ -53,11 +51,11 @@ module _ (h : ℕ) where
   mul a b = wrap h (signed h a *ℤ signed h b)
 
   -- `Div`: negative where just one of the two is. "The least Int by -1 gives itself": its magnitude wraps.
-  abbrev pub div : ℕ → ℕ → Division
+  abbrev pub div : ℕ → ℕ → Option ℕ
   div a b = divided b (with_sign (xor (is_negative a) (is_negative b)) (quotient (unsigned_abs a) (unsigned_abs b)))
 
   -- "`Rem` takes the dividend's sign"
-  abbrev pub rem : ℕ → ℕ → Division
+  abbrev pub rem : ℕ → ℕ → Option ℕ
   rem a b = divided b (with_sign (is_negative a) (unsigned_abs a % unsigned_abs b))
 
   -- "Order comparisons take Ints"

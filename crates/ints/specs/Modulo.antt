@@ -1,4 +1,4 @@
--- Numbers modulo any m: opposites, and a product by halves.
+-- Numbers modulo any m, and their opposites.
 use Rattle.std.specs.Prelude.{ℕ, ◌-◌, ◌%◌}
 
 -- -n modulo m

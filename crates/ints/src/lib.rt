@@ -1,126 +1,84 @@
 // Arithmetic and comparison of Ints. An Int is its pattern of 64 bits in two's complement: the u64 a stands for the integer `signed half a`.
 #![tactic(auto)]
 
-ghost use Rattle.std.specs.Prelude.{◌≡◌, ◌*◌, ◌<◌};
-ghost use Rattle.ints.specs.Ints.{half, quotient, is_negative, unsigned_abs, with_sign, neg, add, sub, mul, div, rem, lt, le, gt, ge};
-
-// What a division or a remainder gives.
-#[derive(Clone, Copy)]
-pub enum Division {
-    Of(u64),
-    ZeroDivisor,
-}
+ghost use Rattle.std.specs.Prelude.{◌≡◌};
+ghost use Rattle.ints.specs.Ints.{half, neg, add, sub, mul, div, rem, lt, le, gt, ge};
 
 pub fn neg(a: u64) -> u64
     ensures { result ≡ neg half a }
 {
-    std::num::wrapping_sub_u64(0, a)
+    a.wrapping_neg()
 }
 
+#[tactic(auto, using(crate::proofs::Laws::add_is))]
 pub fn add(a: u64, b: u64) -> u64
     ensures { result ≡ add half a b }
 {
-    std::num::wrapping_add_u64(a, b)
+    a.wrapping_add(b)
 }
 
+#[tactic(auto, using(crate::proofs::Laws::sub_is))]
 pub fn sub(a: u64, b: u64) -> u64
     ensures { result ≡ sub half a b }
 {
-    std::num::wrapping_sub_u64(a, b)
+    a.wrapping_sub(b)
 }
 
-// A product that fits.
-fn product(x: u64, y: u64) -> u64
-    requires { (x < 4294967296) × (y < 4294967296) }
-    ensures { result ≡ x * y }
-{
-    x * y
-}
-
-// By halves, which are below 2^32 = 4294967296. The product of the two high halves is a multiple of 2^64 and drops out.
+#[tactic(auto, using(crate::proofs::Laws::mul_is))]
 pub fn mul(a: u64, b: u64) -> u64
     ensures { result ≡ mul half a b }
 {
-    let low = product(a % 4294967296, b % 4294967296);
-    let left = product(a / 4294967296, b % 4294967296);
-    let right = product(a % 4294967296, b / 4294967296);
-    let high = (left % 4294967296 + right % 4294967296) % 4294967296;
-    std::num::wrapping_add_u64(low, high * 4294967296)
+    a.wrapping_mul(b)
 }
 
-// The patterns from 2^63 on.
-fn is_negative(a: u64) -> bool
-    ensures { result ≡ is_negative half a }
-{
-    a >= 9223372036854775808
-}
-
-// The magnitude; that of the least Int is 2^63.
-fn unsigned_abs(a: u64) -> u64
-    ensures { result ≡ unsigned_abs half a }
-{
-    if is_negative(a) { neg(a) } else { a }
-}
-
-// The Int of a sign and a magnitude, wrapped: 2^63 without a sign is the least Int.
-fn with_sign(negative: bool, n: u64) -> u64
-    ensures { result ≡ with_sign half negative n }
-{
-    if negative { neg(n) } else { n }
-}
-
-// How `div` rounds, on magnitudes; `rem` does not use it.
-fn quotient(n: u64, d: u64) -> u64
-    requires { 0 < d }
-    ensures { result ≡ quotient n d }
-{
-    n / d
-}
-
-pub fn div(a: u64, b: u64) -> Division
+// Truncates toward zero; None where the divisor is 0.
+#[tactic(auto, using(crate::proofs::Laws::div_none, crate::proofs::Laws::div_some))]
+pub fn div(a: u64, b: u64) -> Option<u64>
     ensures { result ≡ div half a b }
 {
     if b == 0 {
-        return Division::ZeroDivisor;
+        return None;
     }
-    let n = quotient(unsigned_abs(a), unsigned_abs(b));
-    Division::Of(with_sign(is_negative(a) != is_negative(b), n))
+    let (x, y) = (a.cast_signed(), b.cast_signed());
+    Some(x.wrapping_div(y).cast_unsigned())
 }
 
-pub fn rem(a: u64, b: u64) -> Division
+// Has the dividend's sign; None where the divisor is 0.
+#[tactic(auto, using(crate::proofs::Laws::rem_none, crate::proofs::Laws::rem_some))]
+pub fn rem(a: u64, b: u64) -> Option<u64>
     ensures { result ≡ rem half a b }
 {
     if b == 0 {
-        return Division::ZeroDivisor;
+        return None;
     }
-    let n = unsigned_abs(a) % unsigned_abs(b);
-    Division::Of(with_sign(is_negative(a), n))
+    let (x, y) = (a.cast_signed(), b.cast_signed());
+    Some(x.wrapping_rem(y).cast_unsigned())
 }
 
-// Of two Ints of one sign the lesser has the lesser pattern; otherwise the negative one is the lesser.
+#[tactic(auto, using(crate::proofs::Laws::lt_cast))]
 pub fn lt(a: u64, b: u64) -> bool
     ensures { result ≡ lt half a b }
 {
-    if is_negative(a) == is_negative(b) {
-        return a < b;
-    }
-    is_negative(a)
+    a.cast_signed() < b.cast_signed()
 }
 
+#[tactic(auto, using(crate::proofs::Laws::le_cast))]
 pub fn le(a: u64, b: u64) -> bool
     ensures { result ≡ le half a b }
 {
-    !lt(b, a)
+    a.cast_signed() <= b.cast_signed()
 }
 
+#[tactic(auto, using(crate::proofs::Laws::lt_cast))]
 pub fn gt(a: u64, b: u64) -> bool
     ensures { result ≡ gt half a b }
 {
-    lt(b, a)
+    a.cast_signed() > b.cast_signed()
 }
 
+#[tactic(auto, using(crate::proofs::Laws::le_cast))]
 pub fn ge(a: u64, b: u64) -> bool
     ensures { result ≡ ge half a b }
 {
-    le(b, a)
+    a.cast_signed() >= b.cast_signed()
 }

@@ -9,41 +9,42 @@ use std::io;
 use std::io::{Read, Write};
 
 #[derive(Clone, Copy)]
-struct Answer {
-    kind: u8,
-    number: u64,
+enum Answer {
+    Int(u64),
+    Bool(bool),
+    ZeroDivisor,
 }
 
-fn int(number: u64) -> Answer {
-    Answer { kind: 0, number }
-}
-
-fn truth(t: bool) -> Answer {
-    if t {
-        return Answer { kind: 1, number: 1 };
+impl Answer {
+    fn kind(self) -> u8 {
+        match self {
+            Answer::Int(_) => 0,
+            Answer::Bool(_) => 1,
+            Answer::ZeroDivisor => 2,
+        }
     }
-    Answer { kind: 1, number: 0 }
-}
 
-fn divided(division: ints::Division) -> Answer {
-    match division {
-        ints::Division::Of(number) => int(number),
-        ints::Division::ZeroDivisor => Answer { kind: 2, number: 0 },
+    fn number(self) -> u64 {
+        match self {
+            Answer::Int(number) => number,
+            Answer::Bool(truth) => u64::from(truth),
+            Answer::ZeroDivisor => 0,
+        }
     }
 }
 
 fn operated(opcode: u8, a: u64, b: u64) -> Answer {
     match opcode {
-        17 => int(ints::neg(a)),
-        19 => int(ints::add(a, b)),
-        20 => int(ints::sub(a, b)),
-        21 => int(ints::mul(a, b)),
-        22 => divided(ints::div(a, b)),
-        23 => divided(ints::rem(a, b)),
-        26 => truth(ints::gt(a, b)),
-        27 => truth(ints::ge(a, b)),
-        28 => truth(ints::lt(a, b)),
-        _ => truth(ints::le(a, b)),
+        17 => Answer::Int(ints::neg(a)),
+        19 => Answer::Int(ints::add(a, b)),
+        20 => Answer::Int(ints::sub(a, b)),
+        21 => Answer::Int(ints::mul(a, b)),
+        22 => ints::div(a, b).map_or(Answer::ZeroDivisor, Answer::Int),
+        23 => ints::rem(a, b).map_or(Answer::ZeroDivisor, Answer::Int),
+        26 => Answer::Bool(ints::gt(a, b)),
+        27 => Answer::Bool(ints::ge(a, b)),
+        28 => Answer::Bool(ints::lt(a, b)),
+        _ => Answer::Bool(ints::le(a, b)),
     }
 }
 
@@ -57,8 +58,8 @@ fn row(input: &mut impl Read, output: &mut impl Write) -> io::Result<bool> {
     let b = cells::read64(&asked, 9);
     let answer = operated(asked[0], a, b);
     let mut written = [0u8; 9];
-    written[0] = answer.kind;
-    cells::write64(&mut written, 1, answer.number);
+    written[0] = answer.kind();
+    cells::write64(&mut written, 1, answer.number());
     output.write_all(&written)?;
     Ok(true)
 }
@@ -66,9 +67,10 @@ fn row(input: &mut impl Read, output: &mut impl Write) -> io::Result<bool> {
 fn main(rt: HostRuntime) -> io::Result<()> {
     let mut input = rt.stdin();
     let mut output = rt.stdout();
-    let mut rows: u32 = 1000000;
-    while rows > 0 && row(&mut input, &mut output)? {
-        rows -= 1;
+    for _ in 0..1000000u32 {
+        if !row(&mut input, &mut output)? {
+            break;
+        }
     }
     Ok(())
 }

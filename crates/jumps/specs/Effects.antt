@@ -14,6 +14,7 @@ use Rattle.plan.specs.declared.Error.{Error}
 use Rattle.plan.specs.declared.Params.{Params}
 use Rattle.plan.specs.declared.Next.TheVariants.{Goes, Throws, Stops}
 use Rattle.jumps.specs.Ends.{fewer, Shown, Acts, acts_stops, acts_goes, acts_throws, two_none, two_acts}
+use Rattle.refusals.specs.declared.Refusal.TheVariants.{FewValues}
 
 -- ---- Does an effect handle another?
 abbrev pub Matches : Program → Cell → Cell → Bool
@@ -42,7 +43,7 @@ unfolding opcode_action both
 action_check P m r x = refl
 
 module _ {P : Program} {x : ℕ} {g : registers.Running} {live : List ℕ} where
-  pub check_stops : g.stack < 2 → Does P 50 x g (Stops 12) live live
+  pub check_stops : g.stack < 2 → Does P 50 x g (Stops FewValues) live live
   check_stops lt = acts_stops (two_none (λ r. check_effect P r x) (λ m r. action_check P m r x) lt)
 
   module _ {expected e : Cell} {h : registers.Running} {b : Bool} (le : 2 ≤ g.stack) (s : Shown g live 0 expected) (t : Shown g live 1 e) (o : h ≡ fewer 2 g) (is : b ≡ Matches P e expected) where

@@ -22,6 +22,8 @@ use Rattle.plan.proofs.InsideLaws.{goes_fits, jumps_fits, runs_cost, runs_fits, 
 use Rattle.plan.specs.declared.Error.{Error}
 use Rattle.plan.specs.declared.Next.{Next}
 use Rattle.plan.specs.declared.Next.TheVariants.{Goes, Jumps, Throws, Stops}
+use Rattle.refusals.specs.declared.Refusal.{Refusal}
+use Rattle.refusals.specs.Refusals.{number}
 
 -- ---- The registers with n values less; at another place as well
 abbrev pub fewer : ℕ → registers.Running → registers.Running
@@ -50,7 +52,7 @@ module _ {P : Program} {op x : ℕ} {g : registers.Running} {live : List ℕ} wh
   unchanged : {n : Next} → ((z : Sizes) (m : M) (r : Running) (S : List Cell) → Inside P z m r g (cells live) S → Nexts P z op x m r n live live) → Does P op x g n live live
   unchanged f = record { next = λ z m r S q i. f z m r S i; same = record { rest = refl; len = refl } }
 
-  pub acts_stops : {k : ℕ} → Acts P op x g live (λ (r : Running). refuses k) → Does P op x g (Stops k) live live
+  pub acts_stops : {k : Refusal} → Acts P op x g live (λ (r : Running). refuses (number k)) → Does P op x g (Stops k) live live
   unfolding outcome
   acts_stops a = unchanged (λ z m r S i. (ap (λ (t : Taken). outcome P z t m) (a.is z m r S i), refl))
 

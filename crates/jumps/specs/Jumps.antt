@@ -16,6 +16,7 @@ use Rattle.plan.specs.Inside.{Does}
 use Rattle.plan.specs.declared.Error.{Error}
 use Rattle.plan.specs.declared.Next.TheVariants.{Goes, Jumps, Throws, Stops}
 use Rattle.jumps.specs.Ends.{fewer, fewer_at, none_fewer, Shown, Acts, acts_stops, acts_goes, acts_jumps, acts_throws, top_none, top_acts}
+use Rattle.refusals.specs.declared.Refusal.TheVariants.{FewValues}
 
 -- a number of some in a row is the least of them or a later one
 least : (T : ℕ → Type 0) {a n : ℕ} → a ≤ n → T a → (suc a ≤ n → T n) → T n
@@ -62,7 +63,7 @@ module _ {P : Program} {x : ℕ} {g : registers.Running} {live : List ℕ} where
   jump_jumps a b e = acts_jumps 0 (omega arith) e (record { is = λ z m r S i. action_jump P m r x a b })
 
   -- ---- 44
-  pub null_stops : g.stack ≡ 0 → Does P 44 x g (Stops 12) live live
+  pub null_stops : g.stack ≡ 0 → Does P 44 x g (Stops FewValues) live live
   null_stops z = acts_stops (top_none (null_jump x) (λ m r. action_null P m r x) z)
 
   module _ {v : Cell} (some : g.stack ≡ 0 → ⊥) (s : Shown g live 0 v) where
@@ -78,7 +79,7 @@ module _ {P : Program} {x : ℕ} {g : registers.Running} {live : List ℕ} where
 
   -- ---- 45 and 46
   module _ {op : ℕ} (a : 45 ≤ op) (b : op ≤ 46) where
-    pub pop_stops : g.stack ≡ 0 → Does P op x g (Stops 12) live live
+    pub pop_stops : g.stack ≡ 0 → Does P op x g (Stops FewValues) live live
     pop_stops z = acts_stops (top_none (λ r. pop_jump r op x (46 - op)) (λ m r. action_pop P m r x a b) z)
 
     module _ {v : Cell} (some : g.stack ≡ 0 → ⊥) (s : Shown g live 0 v) where
@@ -101,7 +102,7 @@ module _ {P : Program} {x : ℕ} {g : registers.Running} {live : List ℕ} where
 
   -- ---- 47 and 48
   module _ {op : ℕ} (a : 47 ≤ op) (b : op ≤ 48) where
-    pub or_pop_stops : g.stack ≡ 0 → Does P op x g (Stops 12) live live
+    pub or_pop_stops : g.stack ≡ 0 → Does P op x g (Stops FewValues) live live
     or_pop_stops z = acts_stops (top_none (λ r. jump_or_pop r op x (48 - op)) (λ m r. action_or_pop P m r x a b) z)
 
     module _ {v : Cell} (some : g.stack ≡ 0 → ⊥) (s : Shown g live 0 v) where

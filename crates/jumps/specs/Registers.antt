@@ -23,6 +23,7 @@ use Rattle.plan.proofs.InsideLaws.{goes_fits, goes_short, goes_handlers, runs_co
 use Rattle.plan.specs.declared.Error.{Error}
 use Rattle.plan.specs.declared.Next.TheVariants.{Goes, Throws, Stops}
 use Rattle.jumps.specs.Ends.{fewer, Shown, Acts, room_left, acts_stops, acts_throws, top_none, top_acts}
+use Rattle.refusals.specs.declared.Refusal.TheVariants.{FewValues, LiveFull, ManyHandlers}
 
 action_register : (P : Program) (m : M) (r : Running) (x : ℕ) → opcode_action P m r 49 x ≡ with_top r.stack (register_handler P r x)
 unfolding opcode_action both
@@ -41,7 +42,7 @@ pub fewer_fits : (n : ℕ) (g : registers.Running) (live : List ℕ) {h : regist
 fewer_fits n g live e le = rw e (omega arith)
 
 module _ (P : Program) (x : ℕ) (g : registers.Running) (live : List ℕ) where
-  pub register_stops : g.stack ≡ 0 → Does P 49 x g (Stops 12) live live
+  pub register_stops : g.stack ≡ 0 → Does P 49 x g (Stops FewValues) live live
   register_stops z = acts_stops (top_none (λ r. register_handler P r x) (λ m r. action_register P m r x) z)
 
   module _ {e : Cell} {h : registers.Running} {t : ℕ} (some : g.stack ≡ 0 → ⊥) (s : Shown g live 0 e) (o : h ≡ fewer 1 g) (k : t ≡ type_of e) where
@@ -117,7 +118,7 @@ module _ (P : Program) (x : ℕ) (g : registers.Running) (live : List ℕ) where
         }
 
         module _ (all : h.handlers ≤ j) where
-          pub register_many : 16 ≤ h.handlers → Does P 49 x g (Stops 16) live live
+          pub register_many : 16 ≤ h.handlers → Does P 49 x g (Stops ManyHandlers) live live
           register_many le = record {
             next = λ z m r S q i.
                 (goes_handlers i _ _ _ _ (registers_acts.is z m r S i) (omega (arith, one_more z m r S i all)), refl);
@@ -132,7 +133,7 @@ module _ (P : Program) (x : ℕ) (g : registers.Running) (live : List ℕ) where
               same = record { rest = u.rest; len = u.len };
             }
 
-            pub register_short : {n k : ℕ} → n ≡ end_of h → k ≡ room live → k < n + 2 → Does P 49 x g (Stops 14) live live
+            pub register_short : {n k : ℕ} → n ≡ end_of h → k ≡ room live → k < n + 2 → Does P 49 x g (Stops LiveFull) live live
             register_short en ek lt = record {
               next = λ z m r S q i. (
                 goes_short i _ _ _ _ (registers_acts.is z m r S i) (omega (arith, one_more z m r S i all))

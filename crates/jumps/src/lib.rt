@@ -6,12 +6,13 @@ ghost use Rattle.cells.specs.Cells.{room};
 ghost use Rattle.image.specs.Records.{both};
 ghost use Rattle.machine.specs.Values.{Program, is_effect, effect_params, match_effect_handler};
 ghost use Rattle.moves.specs.Runs.{end_of};
-ghost use Rattle.scan.specs.Tables.{program_in};
+ghost use Rattle.scan.specs.Tables.{program_of};
 ghost use Rattle.plan.specs.Inside.{Does};
 
 use cells::Cell;
 use moves::Running;
 use plan::Next;
+use refusals::Refusal;
 
 // The frame at another place, with so many values less on its stack.
 fn placed(g: Running, place: u32, n: usize) -> Running
@@ -19,25 +20,9 @@ fn placed(g: Running, place: u32, n: usize) -> Running
     ensures { result ≡ record { base = g.base; locals = g.locals; handlers = g.handlers; stack = g.stack - n; place = place } }
 {
     Running {
-        base: g.base,
-        locals: g.locals,
-        handlers: g.handlers,
         stack: g.stack - n,
         place: place as usize,
-    }
-}
-
-// The frame with so many values less on its stack.
-fn dropped(g: Running, n: usize) -> Running
-    requires { n ≤ g.stack }
-    ensures { result ≡ record { base = g.base; locals = g.locals; handlers = g.handlers; stack = g.stack - n; place = g.place } }
-{
-    Running {
-        base: g.base,
-        locals: g.locals,
-        handlers: g.handlers,
-        stack: g.stack - n,
-        place: g.place,
+        ..g
     }
 }
 
@@ -55,7 +40,7 @@ pub fn jump_pop_if_null(live: &[u8], g: Running, x: u32) -> Next
     ensures { (P : Program) → Does P 44 x g result live.now live.now }
 {
     if g.stack == 0 {
-        return Next::Stops(12);
+        return Next::Stops(Refusal::FewValues);
     }
     let v = moves::top(live, g, 0);
     if v.tag == 0 {
@@ -70,19 +55,16 @@ pub fn pop_jump_if(live: &[u8], g: Running, op: u16, x: u32) -> Next
     ensures { (P : Program) → Does P op x g result live.now live.now }
 {
     if g.stack == 0 {
-        return Next::Stops(12);
+        return Next::Stops(Refusal::FewValues);
     }
     let v = moves::top(live, g, 0);
     if v.tag != 1 {
-        return Next::Throws(
-            dropped(g, 1),
-            values::un_operator(op, x, values::type_of(v)),
-        );
+        return Next::Throws(g.dropped(1), values::un_operator(op, x, values::type_of(v)));
     }
     if v.number == 46 - op as u32 {
         return Next::Jumps(placed(g, x, 1));
     }
-    Next::Goes(dropped(g, 1))
+    Next::Goes(g.dropped(1))
 }
 
 // 47 `JumpIfTrueOrPop`, 48 `JumpIfFalseOrPop`: the Bool is popped only where the jump is not taken.
@@ -91,7 +73,7 @@ pub fn jump_if_or_pop(live: &[u8], g: Running, op: u16, x: u32) -> Next
     ensures { (P : Program) → Does P op x g result live.now live.now }
 {
     if g.stack == 0 {
-        return Next::Stops(12);
+        return Next::Stops(Refusal::FewValues);
     }
     let v = moves::top(live, g, 0);
     if v.tag != 1 {
@@ -100,66 +82,48 @@ pub fn jump_if_or_pop(live: &[u8], g: Running, op: u16, x: u32) -> Next
     if v.number == 48 - op as u32 {
         return Next::Jumps(placed(g, x, 0));
     }
-    Next::Goes(dropped(g, 1))
+    Next::Goes(g.dropped(1))
 }
 
 // 49 `RegisterHandler`: an equal effect again only replaces what is stored with it; 16 for a seventeenth, 14 where there is no room.
-pub fn register_handler(
-    image: &[u8],
-    rows: &[u32],
-    constants: &[u32],
-    inner: &[u32],
-    codes: usize,
-    live: &mut [u8],
-    g: Running,
-    x: u32,
-) -> Next
+pub fn register_handler(program: &lookups::Program, live: &mut [u8], g: Running, x: u32) -> Next
     requires { end_of g ≤ room live.old }
-    ensures { Does (program_in image.now rows.now constants.now inner.now codes) 49 x g result live.old live.new }
+    ensures { Does (program_of program.now) 49 x g result live.old live.new }
 {
     if g.stack == 0 {
-        return Next::Stops(12);
+        return Next::Stops(Refusal::FewValues);
     }
     let e = moves::top(live, g, 0);
-    let h = dropped(g, 1);
+    let h = g.dropped(1);
     if values::type_of(e) != 8 {
         return Next::Throws(h, values::un_operator(49, x, values::type_of(e)));
     }
-    let j = handlers::find_handler(image, rows, constants, inner, codes, live, h, e);
+    let j = handlers::find_handler(program, live, h, e);
     if j < h.handlers {
         moves::set_handler(live, h, j, x, h.stack);
         return Next::Goes(h);
     }
     if h.handlers >= 16 {
-        return Next::Stops(16);
+        return Next::Stops(Refusal::ManyHandlers);
     }
     if moves::end(h) + 2 > cells::room(live) {
-        return Next::Stops(14);
+        return Next::Stops(Refusal::LiveFull);
     }
     Next::Goes(moves::add_handler(live, h, e, x, h.stack))
 }
 
 // 50 `CheckEffect`: the expected effect lies on top.
-pub fn check_effect(
-    image: &[u8],
-    rows: &[u32],
-    constants: &[u32],
-    inner: &[u32],
-    codes: usize,
-    live: &[u8],
-    g: Running,
-    x: u32,
-) -> Next
+pub fn check_effect(program: &lookups::Program, live: &[u8], g: Running, x: u32) -> Next
     requires { end_of g ≤ room live.now }
-    ensures { Does (program_in image.now rows.now constants.now inner.now codes) 50 x g result live.now live.now }
+    ensures { Does (program_of program.now) 50 x g result live.now live.now }
 {
     if g.stack < 2 {
-        return Next::Stops(12);
+        return Next::Stops(Refusal::FewValues);
     }
     let expected = moves::top(live, g, 0);
     let e = moves::top(live, g, 1);
-    let h = dropped(g, 2);
-    if effect_matches(image, rows, constants, inner, codes, e, expected) {
+    let h = g.dropped(2);
+    if effect_matches(program, e, expected) {
         return Next::Goes(h);
     }
     Next::Throws(
@@ -169,16 +133,8 @@ pub fn check_effect(
 }
 
 // Are both effects, and is the expected one right for a handler of the other?
-fn effect_matches(
-    image: &[u8],
-    rows: &[u32],
-    constants: &[u32],
-    inner: &[u32],
-    codes: usize,
-    e: Cell,
-    expected: Cell,
-) -> bool
-    ensures { result ≡ both (both (is_effect e) (is_effect expected)) (match_effect_handler (effect_params (program_in image.now rows.now constants.now inner.now codes) e) (effect_params (program_in image.now rows.now constants.now inner.now codes) expected)) }
+fn effect_matches(program: &lookups::Program, e: Cell, expected: Cell) -> bool
+    ensures { result ≡ both (both (is_effect e) (is_effect expected)) (match_effect_handler (effect_params (program_of program.now) e) (effect_params (program_of program.now) expected)) }
 {
     if values::type_of(e) != 8 {
         return false;
@@ -186,8 +142,8 @@ fn effect_matches(
     if values::type_of(expected) != 8 {
         return false;
     }
-    let p = effects::effect_params(image, rows, constants, inner, codes, e);
-    let q = effects::effect_params(image, rows, constants, inner, codes, expected);
+    let p = effects::effect_params(program, e);
+    let q = effects::effect_params(program, expected);
     effects::match_effect_handler(p, q)
 }
 

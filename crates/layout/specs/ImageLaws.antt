@@ -1,5 +1,5 @@
 -- Laws of what an image is made of: constants' sizes, and the refusal of a record.
-use Rattle.std.specs.Prelude.{◌≡◌, List, Bool, true, not, ◌⊎◌, ℕ, ◌+◌, ◌-◌, ◌<◌, ◌≤◌, length, leb}
+use Rattle.std.specs.Prelude.{◌≡◌, List, Bool, true, not, ◌⊎◌, ℕ, ◌+◌, ◌-◌, ◌<◌, ◌≤◌, length, leb, Result, Ok}
 use Rattle.std.proofs.Math.Path.{sym}
 use Rattle.std.proofs.Common.{◌∙◌, inl, inr}
 use Rattle.std.proofs.Math.Bool.{false}
@@ -13,6 +13,8 @@ use Rattle.image.proofs.Operands.{least_or, above}
 use Rattle.image.specs.Parts.{Entered}
 use Rattle.image.proofs.Parts.{constant_true, entered}
 use Rattle.image.specs.Image.{sized, constant, refusal}
+use Rattle.refusals.specs.Refusals.{number, number_of}
+use Rattle.refusals.specs.declared.Refusal.{Refusal}
 
 -- ---- Sizes of constants
 -- an effect's body may have this size: what `sized` says of kind 23
@@ -130,5 +132,9 @@ module _ (d n : ℕ) (s : List ℕ) (at : ℕ) where
           unfolding refusal
           refusal_none l = simp (le-leb _ _ h, sym w, eq-eqb _ _ e, ne_eqb _ _ z, lt-leb _ _ m, sym v, le-leb _ _ l)
 
-  pub fine : {no : ℕ} → no ≡ refusal d n s at → no ≡ 0 → Entered d n s at
-  fine e z = entered d n s at (sym e ∙ z)
+  pub passed : {o : Result (Unit {0}) Refusal} → number_of o ≡ refusal d n s at → {x : Unit {0}} → o ≡ Ok x → Entered d n s at
+  passed e z = entered d n s at (sym (rw z at e))
+
+-- no refusal has the number of none
+pub some : (r : Refusal) → number r ≡ 0 → ⊥
+some r = grind arith

@@ -1,5 +1,5 @@
 -- How the lent tables hold what was read, up to a code that is begun.
-use Rattle.std.specs.Prelude.{◌≡◌, refl, List, [], ◌∷◌, ◌++◌, Bool, true, false, not, ℕ, zero, suc, ◌+◌, ◌-◌, ◌*◌, ◌/◌, ◌<◌, ◌≤◌, length, take, drop, set}
+use Rattle.std.specs.Prelude.{◌≡◌, refl, List, [], ◌∷◌, ◌++◌, Bool, true, false, not, ℕ, zero, suc, ◌+◌, ◌-◌, ◌*◌, ◌/◌, ◌<◌, ◌≤◌, length, take, drop, set, Option, None, Some}
 use Rattle.std.proofs.Math.Path.{sym}
 use Rattle.std.proofs.Common.{ap, ◌∙◌, append_assoc, add-one, add_assoc, length-append, take-suc-set}
 use native.Mathlib.Omega.{arith}
@@ -10,8 +10,6 @@ use Rattle.image.proofs.Parts.{first, second, whole_true, listed_true}
 use Rattle.image.specs.Image.{opcodes_at, globals_at, captures_at, constants_at, codes_at, constant}
 use Rattle.image.specs.Layout.{Tables, Places, places_from, front, row, row_of, begin}
 use Rattle.layout.specs.declared.Parts.{Parts}
-use Rattle.layout.specs.declared.Used.{Used}
-use Rattle.layout.specs.declared.Used.TheVariants.{Broken, To}
 
 -- ---- The front of a code
 pub record Front (s : List ℕ) : Type 0 where
@@ -35,8 +33,8 @@ front_true s h =
       codes = whole_true s (constants_at s) 5 (second _ _ c);
     }
 
-pub front_of : (s : List ℕ) {t : Bool} → t ≡ front s → t ≡ true → Front s
-front_of s e n = front_true s (sym e ∙ n)
+pub front_of : (s : List ℕ) {t : Bool} → t ≡ front s → not t ≡ false → Front s
+front_of s {t} e n = front_true s (sym e ∙ not-false t n)
 
 module _ (s : List ℕ) where
   pub front_none : length s < 8 → false ≡ front s
@@ -110,21 +108,21 @@ pub pushed_five : {n a b c d e : ℕ} {l₀ l₁ l₂ l₃ l₄ l₅ : List ℕ}
 pushed_five p q r s t = pushed_both (pushed_both (pushed_both (pushed_both p q) r) s) t
 
 -- ---- Constants: each takes six bytes at least, so 10,922 is the most
-abbrev pub places_of : Used → List ℕ → Answer Places
-places_of Broken constants = refused 2
-places_of (To n) constants = accepted (record { used = n; list = take n constants })
+abbrev pub places_of : Option ℕ → List ℕ → Answer Places
+places_of None constants = refused 2
+places_of (Some n) constants = accepted (record { used = n; list = take n constants })
 
 pub record Grown (used by n : ℕ) : Type 0 where
   pub least : used ≤ n
   pub most : 6 * n ≤ 6 * used + by
   pub low : n ≤ 10922
 
-abbrev pub Grown? : ℕ → ℕ → Used → Type 0
-Grown? used by Broken = 0 ≤ by
-Grown? used by (To n) = Grown used by n
+abbrev pub Grown? : ℕ → ℕ → Option ℕ → Type 0
+Grown? used by None = 0 ≤ by
+Grown? used by (Some n) = Grown used by n
 
 -- the constants of s were listed
-pub record Listed (base : ℕ) (s : List ℕ) (used : ℕ) (constants : List ℕ) (r : Used) (constants' : List ℕ) : Type 0 where
+pub record Listed (base : ℕ) (s : List ℕ) (used : ℕ) (constants : List ℕ) (r : Option ℕ) (constants' : List ℕ) : Type 0 where
   pub does : places_of r constants' ≡ places_from (length s) base s 0 (record { used = used; list = take used constants })
   pub room : Grown? used (length s) r
 
@@ -164,14 +162,14 @@ places_turn zero base s at p h k e = absurd (omega arith)
 places_turn (suc f) base s at p h k e = let n : suc f - 1 ≡ f = omega arith in rw n (simp (lt-leb _ _ h, e))
 
 module _ {base : ℕ} {s : List ℕ} {used₀ : ℕ} {constants₀ : List ℕ} {at to : ℕ} {constants : List ℕ} (i : Listing base s used₀ constants₀ at to constants) where
-  pub listing_ends : length s ≤ at → Room base s used₀ constants₀ → Listed base s used₀ constants₀ (To to) constants
+  pub listing_ends : length s ≤ at → Room base s used₀ constants₀ → Listed base s used₀ constants₀ (Some to) constants
   listing_ends h q = record {
     does = sym (places_done i.fuel base s at (record { used = to; list = take to constants }) h) ∙ i.left;
     room = record { least = i.least; most = omega (arith, i.most, i.inside); low = omega (arith, i.most, i.inside, q.numbers) };
   }
 
   module _ (h : at < length s) {t : Bool} (e : t ≡ constant s at) where
-    pub listing_broken : not t ≡ true → Listed base s used₀ constants₀ Broken constants
+    pub listing_broken : not t ≡ true → Listed base s used₀ constants₀ None constants
     listing_broken n = record {
       does = sym (places_not i.fuel base s at (record { used = to; list = take to constants }) h i.enough (sym e ∙ not-true t n)) ∙ i.left;
       room = omega arith;
@@ -189,7 +187,7 @@ module _ {base : ℕ} {s : List ℕ} {used₀ : ℕ} {constants₀ : List ℕ} {
       size = k ∙ i.size;
     }
 
-module _ {base : ℕ} {s : List ℕ} {used : ℕ} {constants : List ℕ} {d : Used} {constants' : List ℕ} {to : ℕ} (w : Listed base s used constants d constants') (b : d ≡ To to) where
+module _ {base : ℕ} {s : List ℕ} {used : ℕ} {constants : List ℕ} {d : Option ℕ} {constants' : List ℕ} {to : ℕ} (w : Listed base s used constants d constants') (b : d ≡ Some to) where
   pub listed_grown : Grown used (length s) to
   listed_grown = rw b at w.room
 
@@ -209,25 +207,25 @@ pub record Begun (used n : ℕ) (s : List ℕ) : Type 0 where
   pub most : 6 * n ≤ 6 * used + codes_at s
   pub front : Front s
 
-abbrev pub Begun? : ℕ → Used → List ℕ → Type 0
-Begun? used Broken s = 0 ≤ used
-Begun? used (To n) s = Begun used n s
+abbrev pub Begun? : ℕ → Option ℕ → List ℕ → Type 0
+Begun? used None s = 0 ≤ used
+Begun? used (Some n) s = Begun used n s
 
-abbrev pub begun_of : ℕ → ℕ → Used → List ℕ → List ℕ → List ℕ → Answer Tables
-begun_of codes kept Broken rows constants inner = refused 2
-begun_of codes kept (To n) rows constants inner = accepted (view (codes + 1) n kept rows constants inner)
+abbrev pub begun_of : ℕ → ℕ → Option ℕ → List ℕ → List ℕ → List ℕ → Answer Tables
+begun_of codes kept None rows constants inner = refused 2
+begun_of codes kept (Some n) rows constants inner = accepted (view (codes + 1) n kept rows constants inner)
 
 -- whatever numbers of inner codes are there
-pub record Begins (base : ℕ) (s : List ℕ) (codes used : ℕ) (rows constants : List ℕ) (r : Used) (rows' constants' : List ℕ) : Type 0 where
+pub record Begins (base : ℕ) (s : List ℕ) (codes used : ℕ) (rows constants : List ℕ) (r : Option ℕ) (rows' constants' : List ℕ) : Type 0 where
   pub does : (kept : ℕ) (inner : List ℕ) → begun_of codes kept r rows' constants' inner ≡ begin base s (view codes used kept rows constants inner)
   pub room : Begun? used r s
 
 module _ (base : ℕ) (s : List ℕ) (codes used : ℕ) (rows constants : List ℕ) where
-  pub begin_not : {t : Bool} → t ≡ front s → t ≡ false → Begins base s codes used rows constants Broken rows constants
+  pub begin_not : {t : Bool} → t ≡ front s → not t ≡ true → Begins base s codes used rows constants None rows constants
   unfolding begin
-  begin_not e n = record { does = λ kept inner. simp (sym e, n); room = omega arith }
+  begin_not {t} e n = record { does = λ kept inner. simp (sym e, not-true t n); room = omega arith }
 
-  module _ (f : Front s) {p : Parts} (l : Lies s p) {d : Used} {constants' : List ℕ}
+  module _ (f : Front s) {p : Parts} (l : Lies s p) {d : Option ℕ} {constants' : List ℕ}
       (w : Listed (base + (p.constants + 6)) (take (p.codes - (p.constants + 6)) (drop (p.constants + 6) s)) used constants d constants') where
     at_captures : p.captures ≡ captures_at s
     at_captures = l.captures.is ∙ ap (after s) l.globals.is
@@ -249,13 +247,13 @@ module _ (base : ℕ) (s : List ℕ) (codes used : ℕ) (rows constants : List �
     unfolding begin
     begin_is kept inner = simp (f.is, sym places)
 
-    pub begin_broken : d ≡ Broken → Begins base s codes used rows constants Broken rows constants'
+    pub begin_broken : d ≡ None → Begins base s codes used rows constants None rows constants'
     begin_broken b = record { does = λ kept inner. sym (rw b at (begin_is kept inner)); room = omega arith }
 
-    pub begin_ends : {to : ℕ} → d ≡ To to → {rows' : List ℕ}
+    pub begin_ends : {to : ℕ} → d ≡ Some to → {rows' : List ℕ}
         → Pushed (10 * codes) (row_of base ((p.globals + 6 - 20) / 6) (base + (p.globals + 6)) ((p.captures + 6 - 6 - (p.globals + 6)) / 2)
         (base + (p.captures + 6)) ((p.constants + 6 - 6 - (p.captures + 6)) / 4) used (to - used)) rows rows'
-        → Begins base s codes used rows constants (To to) rows' constants'
+        → Begins base s codes used rows constants (Some to) rows' constants'
     begin_ends {to} b {rows'} r =
         let n : 10 * (codes + 1) ≡ 10 * codes + 10 = omega arith in
         let x : p.globals + 6 - 20 ≡ size s opcodes_at = omega (arith, l.globals.is) in

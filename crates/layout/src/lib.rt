@@ -10,6 +10,9 @@ ghost use Rattle.layout.specs.RecordsLaws.{Behind};
 ghost use Rattle.layout.specs.ImageLaws.{effect_sized};
 ghost use Rattle.layout.specs.Reads.{Finishable, Finished, Open, Reads, Laid};
 ghost use Rattle.layout.specs.Tables.{Front, Lies, Pushed, Listed, Room, Ready, Begins};
+ghost use Rattle.refusals.specs.Refusals.{number_of};
+
+use refusals::Refusal;
 
 // Where the records of a code lie in its body, and where the codes in it begin. The opcodes always lie at 8.
 #[derive(Clone, Copy)]
@@ -20,18 +23,12 @@ struct Parts {
     codes: usize,
 }
 
-// How many constants there are now, or that a record is not as it must be.
+// How many codes, constants and numbers of inner codes the tables hold.
 #[derive(Clone, Copy)]
-enum Used {
-    Broken,
-    To(usize),
-}
-
-// A refusal with its number, or how many codes, constants and inner numbers the tables hold.
-#[derive(Clone, Copy)]
-pub enum Read {
-    Refused(u32),
-    Accepted(usize, usize, usize),
+pub struct Sizes {
+    pub codes: usize,
+    pub constants: usize,
+    pub inner: usize,
 }
 
 // The length of a record's body.
@@ -129,27 +126,28 @@ fn is_constant(part: &[u8], at: usize) -> bool
     is_sized(part, at, n)
 }
 
-// The refusal of the record at a place as code number n, 0 for none. Depth and count come before its length.
-fn refusal_of(part: &[u8], at: usize, depth: u32, n: usize) -> u32
+// May the record at a place be read as code number n? Depth and count come before its length.
+#[tactic(auto, using(crate::specs::ImageLaws::refusal_short, crate::specs::ImageLaws::refusal_other, crate::specs::ImageLaws::refusal_deep, crate::specs::ImageLaws::refusal_many, crate::specs::ImageLaws::refusal_long, crate::specs::ImageLaws::refusal_none))]
+fn enterable(part: &[u8], at: usize, depth: u32, n: usize) -> Result<(), Refusal>
     requires { at ≤ length part.now }
-    ensures { result ≡ refusal depth n part.now at }
+    ensures { number_of result ≡ refusal depth n part.now at }
 {
     if part.len() - at < 6 {
-        return 2;
+        return Err(Refusal::ImageStructure);
     }
     if kind(part, at) != 1 {
-        return 2;
+        return Err(Refusal::ImageStructure);
     }
     if depth == 0 {
-        return 4;
+        return Err(Refusal::ImageCodes);
     }
     if n >= 256 {
-        return 4;
+        return Err(Refusal::ImageCodes);
     }
     if size(part, at) > part.len() - (at + 6) {
-        return 2;
+        return Err(Refusal::ImageStructure);
     }
-    0
+    Ok(())
 }
 
 // One number more in a table.
@@ -160,8 +158,10 @@ fn push(table: &mut [u32], n: usize, v: u32)
     table[n] = v;
 }
 
-// The places of a code's constants: `part` is the body of their record.
-fn read_constants(part: &[u8], base: usize, constants: &mut [u32], used: usize) -> Used
+// The places of a code's constants, and how many constants there are then; none where a record is not as it must be.
+// `part` is the body of their record. The records differ in length, so each place comes from the one before.
+#[tactic(auto, using(crate::specs::Tables::listing_first, crate::specs::Tables::listing_next, crate::specs::ImageLaws::constant_of))]
+fn read_constants(part: &[u8], base: usize, constants: &mut [u32], used: usize) -> Option<usize>
     requires { Room base part.now used constants.old }
     ensures { Listed base part.now used constants.old result constants.new }
 {
@@ -169,14 +169,14 @@ fn read_constants(part: &[u8], base: usize, constants: &mut [u32], used: usize) 
     let mut to = used;
     while at < part.len() {
         if !is_constant(part, at) {
-            return Used::Broken;
+            return None;
         }
         let next = after(part, at);
         push(constants, to, (base + at) as u32);
         to += 1;
         at = next;
     }
-    Used::To(to)
+    Some(to)
 }
 
 // Are a code's own records there, but for what its constants are?
@@ -257,7 +257,7 @@ fn begin_front(
     constants: &mut [u32],
     codes: usize,
     used: usize,
-) -> Used
+) -> Option<usize>
     requires { Ready base part.now codes used rows.old constants.old × Front part.now }
     ensures { Begins base part.now codes used rows.old constants.old result rows.new constants.new }
 {
@@ -266,27 +266,24 @@ fn begin_front(
     let captures = p.captures + 6;
     let start = p.constants + 6;
     let end = p.codes;
-    match read_constants(&part[start..end], base + start, constants, used) {
-        Used::Broken => Used::Broken,
-        Used::To(to) => {
-            push_row(
-                rows,
-                codes,
-                base as u32,
-                ((globals - 20) / 6) as u32,
-                (base + globals) as u32,
-                ((captures - 6 - globals) / 2) as u32,
-                (base + captures) as u32,
-                ((start - 6 - captures) / 4) as u32,
-                used as u32,
-                (to - used) as u32,
-            );
-            Used::To(to)
-        }
-    }
+    let to = read_constants(&part[start..end], base + start, constants, used)?;
+    push_row(
+        rows,
+        codes,
+        base as u32,
+        ((globals - 20) / 6) as u32,
+        (base + globals) as u32,
+        ((captures - 6 - globals) / 2) as u32,
+        (base + captures) as u32,
+        ((start - 6 - captures) / 4) as u32,
+        used as u32,
+        (to - used) as u32,
+    );
+    Some(to)
 }
 
 // A code is begun: its row, and its constants' places.
+#[tactic(auto, using(crate::specs::Tables::front_of))]
 fn begin(
     part: &[u8],
     base: usize,
@@ -294,31 +291,30 @@ fn begin(
     constants: &mut [u32],
     codes: usize,
     used: usize,
-) -> Used
+) -> Option<usize>
     requires { Ready base part.now codes used rows.old constants.old }
     ensures { Begins base part.now codes used rows.old constants.old result rows.new constants.new }
 {
-    if is_front(part) {
-        return begin_front(part, base, rows, constants, codes, used);
+    if !is_front(part) {
+        return None;
     }
-    Used::Broken
+    begin_front(part, base, rows, constants, codes, used)
 }
 
 // Code k is done: the numbers of the codes in it go to the table, and their place and count to its row.
-fn finish(rows: &mut [u32], inner: &mut [u32], k: usize, kept: usize, numbers: &[u8], count: usize)
-    requires { Finishable rows.old inner.old k kept numbers.now count }
-    ensures { Finished k kept count numbers.now rows.old inner.old rows.new inner.new }
+fn finish(rows: &mut [u32], inner: &mut [u32], k: usize, kept: usize, numbers: &[u8])
+    requires { Finishable rows.old inner.old k kept numbers.now }
+    ensures { Finished k kept numbers.now rows.old inner.old rows.new inner.new }
 {
-    let mut i: usize = 0;
-    while i < count {
-        push(inner, kept + i, numbers[i] as u32);
-        i += 1;
+    for (i, &number) in numbers.iter().enumerate() {
+        push(inner, kept + i, u32::from(number));
     }
     rows[10 * k + 8] = kept as u32;
-    rows[10 * k + 9] = count as u32;
+    rows[10 * k + 9] = numbers.len() as u32;
 }
 
-// The code with number `codes` in the body of its record, with all codes in it. A byte is enough for a code's number.
+// The next code in the body of its record, with all codes in it, and what the tables hold then.
+// A byte is enough for a code's number.
 fn read_code(
     part: &[u8],
     base: usize,
@@ -326,81 +322,68 @@ fn read_code(
     rows: &mut [u32],
     constants: &mut [u32],
     inner: &mut [u32],
-    codes: usize,
-    used: usize,
-    kept: usize,
-) -> Read
-    requires { Open base part.now codes used kept rows.old constants.old inner.old }
-    ensures { Reads depth base part.now codes used kept rows.old constants.old inner.old result rows.new constants.new inner.new }
+    held: Sizes,
+) -> Result<Sizes, Refusal>
+    requires { Open base part.now held rows.old constants.old inner.old }
+    ensures { Reads depth base part.now held rows.old constants.old inner.old result rows.new constants.new inner.new }
 {
-    match begin(part, base, rows, constants, codes, used) {
-        Used::Broken => Read::Refused(2),
-        Used::To(to) => {
-            let mut numbers = [0u8; 256];
-            let mut count: usize = 0;
-            let mut next = codes + 1;
-            let mut top = to;
-            let mut held = kept;
-            let mut at = parts_of(part).codes;
-            while at < part.len() {
-                let no = refusal_of(part, at, depth, next);
-                if no != 0 {
-                    return Read::Refused(no);
-                }
-                let start = at + 6;
-                let end = after(part, at);
-                match read_code(
-                    &part[start..end],
-                    base + start,
-                    depth - 1,
-                    rows,
-                    constants,
-                    inner,
-                    next,
-                    top,
-                    held,
-                ) {
-                    Read::Refused(n) => {
-                        return Read::Refused(n);
-                    }
-                    Read::Accepted(c, u, k) => {
-                        numbers[count] = next as u8;
-                        count += 1;
-                        next = c;
-                        top = u;
-                        held = k;
-                        at = end;
-                    }
-                }
-            }
-            finish(rows, inner, codes, held, &numbers, count);
-            Read::Accepted(next, top, held + count)
-        }
+    let Some(to) = begin(part, base, rows, constants, held.codes, held.constants) else {
+        return Err(Refusal::ImageStructure);
+    };
+    let mut now = Sizes {
+        codes: held.codes + 1,
+        constants: to,
+        inner: held.inner,
+    };
+    let mut numbers = [0u8; 256];
+    let mut count: usize = 0;
+    let mut at = parts_of(part).codes;
+    // The records differ in length, so each place comes from the one before.
+    while at < part.len() {
+        enterable(part, at, depth, now.codes)?;
+        let start = at + 6;
+        let end = after(part, at);
+        let code = &part[start..end];
+        numbers[count] = now.codes as u8;
+        count += 1;
+        now = read_code(code, base + start, depth - 1, rows, constants, inner, now)?;
+        at = end;
     }
+    finish(rows, inner, held.codes, now.inner, &numbers[..count]);
+    Ok(Sizes {
+        inner: now.inner + count,
+        ..now
+    })
 }
 
 // The whole image is read into the tables: 1 for its size, then 2 and 4 from the front, and left-over bytes where they stand.
-pub fn read_layout(image: &[u8], rows: &mut [u32], constants: &mut [u32], inner: &mut [u32]) -> Read
+pub fn read_layout(
+    image: &[u8],
+    rows: &mut [u32],
+    constants: &mut [u32],
+    inner: &mut [u32],
+) -> Result<Sizes, Refusal>
     requires { (2560 ≤ length rows.old) × (10923 ≤ length constants.old) × (256 ≤ length inner.old) }
     ensures { Laid image.now result rows.new constants.new inner.new }
 {
     if image.len() < 6 {
-        return Read::Refused(1);
+        return Err(Refusal::ImageSize);
     }
     if image.len() > 65536 {
-        return Read::Refused(1);
+        return Err(Refusal::ImageSize);
     }
     if !is_whole(image, 0, 1) {
-        return Read::Refused(2);
+        return Err(Refusal::ImageStructure);
     }
     let end = after(image, 0);
-    match read_code(&image[6..end], 6, 7, rows, constants, inner, 0, 0, 0) {
-        Read::Refused(n) => Read::Refused(n),
-        Read::Accepted(codes, used, kept) => {
-            if end == image.len() {
-                return Read::Accepted(codes, used, kept);
-            }
-            Read::Refused(2)
-        }
+    let none = Sizes {
+        codes: 0,
+        constants: 0,
+        inner: 0,
+    };
+    let held = read_code(&image[6..end], 6, 7, rows, constants, inner, none)?;
+    if end == image.len() {
+        return Ok(held);
     }
+    Err(Refusal::ImageStructure)
 }

@@ -1,6 +1,5 @@
 -- A clear drops frames, result, wait and slice.
-use Rattle.std.specs.Prelude.{◌≡◌, refl, List, ℕ}
-use Rattle.std.proofs.Common.{sym, ◌∙◌, arith}
+use Rattle.std.specs.Prelude.{◌≡◌, refl, List, ℕ, Result, Ok, Err}
 use Rattle.std.proofs.Math.Path.{ap}
 use Rattle.std.proofs.Math.Bool.{true}
 use Rattle.cells.specs.Cells.{cells, Writes}
@@ -12,12 +11,12 @@ use Rattle.machine.specs.Calls.{Request, clear, request_world}
 use Rattle.memory.specs.Layout.{Holds, result_shown, flat}
 use Rattle.form.specs.Entry.{Entered, entry, live_of, store_of}
 use Rattle.asks.specs.Asks.{sizes_of, answer, Asked}
-use Rattle.asks.specs.Entries.{entry_of}
+use Rattle.refusals.specs.Refusals.{number}
+use Rattle.refusals.specs.declared.Refusal.{Refusal}
+use Rattle.asks.specs.Entries.{says, entry_of}
 use Rattle.asks.specs.Ready.{Ready, on_entry}
 use Rattle.asks.specs.Requests.{clear_plain}
 use Rattle.asks.specs.Writing.{wrote, Both, both_asked}
-use Rattle.asks.specs.declared.Entry.{Entry}
-use Rattle.asks.specs.declared.Entry.TheVariants.{Refused, InForm}
 use Rattle.loading.specs.Fresh.{cleared, Clearing}
 
 module _ {e : Entered} {state live store : List ℕ} (r : Ready e state live store) where
@@ -48,17 +47,17 @@ module _ (image state live store : List ℕ) (r : ℕ) (state' : List ℕ) where
       both_asked image state live store r state' clear (on_entry image state live store (λ x. Clearing state x r state' → Both image state live store r state' clear x) (λ n w. w)
       (λ e k w. wrote k clear true clears (cleared (cells state)) r state' (clear_plain e.program (sizes_of live store) e.world k.fits) (λ _. clear_set k) w) h)
 
-module _ (image state live store : List ℕ) {o : Entry} (w : o ≡ entry_of (entry image state live store)) where
-  pub clear_not : {n : ℕ} → o ≡ Refused n → Asked clear image state live store n state
-  clear_not {n} e = asked_clear image state live store n state (by (entry image state live store) (sym e ∙ w))
+module _ (image state live store : List ℕ) {o : Result (Unit {0}) Refusal} (w : says o ≡ entry_of (entry image state live store)) where
+  pub clear_not : {r : Refusal} → o ≡ Err r → Asked clear image state live store (number r) state
+  clear_not {r} e = asked_clear image state live store (number r) state (by (entry image state live store) (rw e at w))
     where
-      by : (x : Answer Entered) → Refused n ≡ entry_of x → Clearing state x n state
+      by : (x : Answer Entered) → refused (number r) ≡ entry_of x → Clearing state x (number r) state
       by (refused m) h = (cc, refl)
-      by (accepted e) h = let z : ◌≡◌ {A = ℕ} 0 1 = cc in absurd (omega arith)
+      by (accepted e) h = cc
 
-  pub clear_in : {state' : List ℕ} → o ≡ InForm → Writes state (cleared (cells state)) state' → Asked clear image state live store 0 state'
-  clear_in {state'} e q = asked_clear image state live store 0 state' (by (entry image state live store) (sym e ∙ w))
+  pub clear_in : {u : Unit {0}} {state' : List ℕ} → o ≡ Ok u → Writes state (cleared (cells state)) state' → Asked clear image state live store 0 state'
+  clear_in {u} {state'} e q = asked_clear image state live store 0 state' (by (entry image state live store) (rw e at w))
     where
-      by : (x : Answer Entered) → InForm ≡ entry_of x → Clearing state x 0 state'
-      by (refused m) h = let z : ◌≡◌ {A = ℕ} 0 1 = cc in absurd (omega arith)
+      by : (x : Answer Entered) → accepted u ≡ entry_of x → Clearing state x 0 state'
+      by (refused m) h = cc
       by (accepted e) h = (refl, q)

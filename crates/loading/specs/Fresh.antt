@@ -7,13 +7,11 @@ use Rattle.image.specs.Program.{Code, no_code}
 use Rattle.machine.specs.Values.{cell}
 use Rattle.form.specs.Entry.{Entered}
 use Rattle.asks.specs.Writing.{Writing}
-use Rattle.loading.specs.declared.Outermost.{Outermost}
-use Rattle.loading.specs.declared.Outermost.TheVariants.{NotRead, Captures}
 
 -- the captures of the outermost code
-abbrev pub outermost_of : Answer (List Code) → Outermost
-outermost_of (refused n) = NotRead n
-outermost_of (accepted cs) = Captures (length (get_or cs 0 no_code).captures)
+abbrev pub outermost_of : Answer (List Code) → Answer ℕ
+outermost_of (refused n) = refused n
+outermost_of (accepted cs) = accepted (length (get_or cs 0 no_code).captures)
 
 -- the mark, so many cells of the store used, and no frame
 abbrev pub headed : ℕ → List Cell → List Cell

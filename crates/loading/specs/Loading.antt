@@ -1,6 +1,6 @@
 -- A load: what its inner functions give and leave is what the machine's definitions say.
 use Rattle.std.proofs.Math.Path.{◌≡◌, ap, subst}
-use Rattle.std.specs.Prelude.{refl, ℕ, suc, ◌+◌, ◌<◌, ◌≤◌, ◌*◌, min, get_or, take, drop}
+use Rattle.std.specs.Prelude.{refl, ℕ, suc, ◌+◌, ◌<◌, ◌≤◌, ◌*◌, min, get_or, take, drop, Result, Ok, Err}
 use Rattle.std.proofs.Common.{sym, ◌∙◌, arith, length-take, get_or-take, eq-eqb, ne_eqb, lt-ltb, le-ltb}
 use mathlib.Core.List.{List, ◌++◌, ◌∷◌, append-nil}
 use Rattle.std.proofs.Math.ListN.{length, replicate, length-replicate}
@@ -14,7 +14,9 @@ use Rattle.image.specs.Image.{parse}
 use Rattle.image.proofs.Parts.{tab_at, length_tab}
 use Rattle.image.specs.Layout.{field, code_at, capture_at}
 use Rattle.image.proofs.Accepted.{accepted_fine}
-use Rattle.layout.specs.declared.Read.{Read}
+use Rattle.layout.specs.declared.Sizes as tables
+use Rattle.refusals.specs.Refusals.{number}
+use Rattle.refusals.specs.declared.Refusal.{Refusal}
 use Rattle.reader.specs.Reads.{Reads}
 use Rattle.machine.specs.Values.{Program, closure_at, cell}
 use Rattle.machine.specs.Machine.{used, cost}
@@ -22,39 +24,40 @@ use Rattle.machine.specs.Calls.{Sizes, loaded, loaded_machine, load_of, program_
 use Rattle.memory.specs.Layout.{state_cells, result_shown, store_cells, object_cells}
 use Rattle.asks.specs.Asks.{sizes_of, got_of, loading, load_answer, LoadLeft, Loaded}
 use Rattle.asks.specs.declared.Got.{Got}
-use Rattle.loading.specs.declared.Outermost.{Outermost}
-use Rattle.loading.specs.declared.Outermost.TheVariants.{NotRead, Captures}
+use Rattle.asks.specs.Entries.{says}
 use Rattle.loading.specs.Fresh.{fresh_store, fresh_state, outermost_of}
-use Rattle.layout.specs.declared.Read.TheVariants.{Refused, Accepted}
 
 -- ---- The outermost code of an image
-module _ {image : List ℕ} {o : Read} {rows constants inner : List ℕ} (w : Reads image o rows constants inner) where
-  pub outermost_not : {n : ℕ} → o ≡ Refused n → NotRead n ≡ outermost_of (parse image)
+module _ {image : List ℕ} {o : Result tables.Sizes Refusal} {rows constants inner : List ℕ} (w : Reads image o rows constants inner) where
+  pub outermost_not : {x : Refusal} → o ≡ Err x → refused (number x) ≡ outermost_of (parse image)
   outermost_not e = ap outermost_of (rw e at w.shows)
 
-  pub outermost_is : {c u k n : ℕ} → o ≡ Accepted c u k → (n ≡ field rows 0 5) × (n < 4294967296) → Captures n ≡ outermost_of (parse image)
-  outermost_is {c} {u} {k} e f =
+  pub outermost_is : {t : tables.Sizes} {n : ℕ} → o ≡ Ok t → (n ≡ field rows 0 5) × (n < 4294967296) → accepted n ≡ outermost_of (parse image)
+  outermost_is {t} e f =
+      let c = t.codes in
+      let u = t.constants in
+      let k = t.inner in
       let codes = tab c (code_at image (take (10 * c) rows) (take u constants) (take k inner)) in
       let q : accepted codes ≡ parse image = rw e at w.shows in
       let some : 1 ≤ length codes = (accepted_fine image codes (sym q)).some in
       let l : 1 ≤ c = omega (arith, some, length_tab c (code_at image (take (10 * c) rows) (take u constants) (take k inner))) in
-      ap Captures (f.0 ∙ sym (get_or-take (10 * c) rows 5 0 (omega arith))
+      ap accepted (f.0 ∙ sym (get_or-take (10 * c) rows 5 0 (omega arith))
       ∙ sym (ap (λ (x : Code). length x.captures) (tab_at c (code_at image (take (10 * c) rows) (take u constants) (take k inner)) 0 no_code (omega arith)) ∙ length_tab (field (take (10 * c) rows) 0 5) (capture_at image (field (take (10 * c) rows) 0 4))))
       ∙ ap outermost_of q
 
 -- an accepted image's outermost code has at most 256 captures
-pub captures_few : (image : List ℕ) {n : ℕ} → Captures n ≡ outermost_of (parse image) → n ≤ 256
+pub captures_few : (image : List ℕ) {n : ℕ} → accepted n ≡ outermost_of (parse image) → n ≤ 256
 captures_few image {n} h = by (parse image) refl h
   where
-    by : (x : Answer (List Code)) → parse image ≡ x → Captures n ≡ outermost_of x → n ≤ 256
-    by (refused m) q h = let z : ◌≡◌ {A = ℕ} 0 1 = cc in absurd (omega arith)
+    by : (x : Answer (List Code)) → parse image ≡ x → accepted n ≡ outermost_of x → n ≤ 256
+    by (refused m) q h = cc
     by (accepted cs) q h =
         let e : n ≡ length (get_or cs 0 no_code).captures = cc in
         let a = accepted_fine image cs q in
         omega (arith, e, (a.fine 0 (omega (arith, a.some))).captures)
 
-pub load_few : (image : List ℕ) {n : ℕ} {o : Outermost} → o ≡ outermost_of (parse image) → o ≡ Captures n → n ≤ 256
-load_few image h e = captures_few image (sym e ∙ h)
+pub load_few : (image : List ℕ) {n : ℕ} {o : Result ℕ Refusal} → says o ≡ outermost_of (parse image) → o ≡ Ok n → n ≤ 256
+load_few image h e = captures_few image (rw e at h)
 
 -- the state block's last cells, for any number m of globals and of builtins
 nulls : {a b : ℕ} (m : ℕ) → a ≡ b
@@ -77,7 +80,7 @@ module _ (image state live store : List ℕ) where
   whole r state' store' b = record { answers = b.0; leaves = b.1 }
 
   -- 6 comes before all of the image
-  at_length : (length state ≡ 8256 → ⊥) → Loaded image state live store (got_of 6 null) state store
+  pub at_length : (length state ≡ 8256 → ⊥) → Loaded image state live store (got_of 6 null) state store
   unfolding loading load_answer
   at_length h = whole (got_of 6 null) state store (rw (ne_eqb (length state) 8256 h) (refl, (refl, refl)))
 
@@ -89,15 +92,15 @@ module _ (image state live store : List ℕ) where
     on_load : {r : Got} {state' store' : List ℕ} → Both (load image (sizes_of live store)) r state' store' → Loaded image state live store r state' store'
     on_load {r} {state'} {store'} b = whole r state' store' (rw here b)
 
-    at_not : {n : ℕ} → NotRead n ≡ outermost_of (parse image) → Loaded image state live store (got_of n null) state store
+    at_not : {n : ℕ} → refused n ≡ outermost_of (parse image) → Loaded image state live store (got_of n null) state store
     unfolding load_of program_of load_answer
     at_not {n} h = on_load (by (parse image) h)
       where
-        by : (x : Answer (List Code)) → NotRead n ≡ outermost_of x → Both (load_of image (sizes_of live store) (program_of image x)) (got_of n null) state store
+        by : (x : Answer (List Code)) → refused n ≡ outermost_of x → Both (load_of image (sizes_of live store) (program_of image x)) (got_of n null) state store
         by (refused m) h = let e : n ≡ m = cc in (ap (λ (k : ℕ). got_of k null) e, (refl, refl))
-        by (accepted cs) h = let z : ◌≡◌ {A = ℕ} 0 1 = cc in absurd (omega arith)
+        by (accepted cs) h = cc
 
-    module _ {n : ℕ} (h : Captures n ≡ outermost_of (parse image)) where
+    module _ {n : ℕ} (h : accepted n ≡ outermost_of (parse image)) where
       -- the store's cells, used up to 65,536, are enough exactly if all of them are
       abbrev of : List Code → Program
       of cs = record { image = image; codes = cs }
@@ -135,8 +138,8 @@ module _ (image state live store : List ℕ) where
       unfolding load_answer
       at_full l = on_load (by (parse image) h)
         where
-          by : (x : Answer (List Code)) → Captures n ≡ outermost_of x → Both (load_of image (sizes_of live store) (program_of image x)) (got_of 15 null) state store
-          by (refused m) h = let z : ◌≡◌ {A = ℕ} 0 1 = cc in absurd (omega arith)
+          by : (x : Answer (List Code)) → accepted n ≡ outermost_of x → Both (load_of image (sizes_of live store) (program_of image x)) (got_of 15 null) state store
+          by (refused m) h = cc
           by (accepted cs) h = let e : n ≡ length (get_or cs 0 no_code).captures = cc in
               let t = too_few_lem (length-take 65536 (cells store)) (length_cells store) few (cost_is cs e) l in
               let q = full_is cs (sizes_of live store) t in
@@ -147,28 +150,22 @@ module _ (image state live store : List ℕ) where
       unfolding load_answer
       at_fresh l {state'} {store'} a b = on_load (by (parse image) h)
         where
-          by : (x : Answer (List Code)) → Captures n ≡ outermost_of x → Both (load_of image (sizes_of live store) (program_of image x)) (got_of 0 (closure_at 0)) state' store'
-          by (refused m) h = let z : ◌≡◌ {A = ℕ} 0 1 = cc in absurd (omega arith)
+          by : (x : Answer (List Code)) → accepted n ≡ outermost_of x → Both (load_of image (sizes_of live store) (program_of image x)) (got_of 0 (closure_at 0)) state' store'
+          by (refused m) h = cc
           by (accepted cs) h = let e : n ≡ length (get_or cs 0 no_code).captures = cc in
               let t = enough (length-take 65536 (cells store)) (length_cells store) few (cost_is cs e) l in
               let q = fresh_is cs (sizes_of live store) t in
               subst (λ (x : Answer Program). Both x (got_of 0 (closure_at 0)) state' store') (sym q)
               (refl, record { block = a.cells ∙ block_is cs e; len = a.len; objects = rw (← objects_are cs e, cost_is cs e) b })
 
-  -- the returns of the load, with the answer as it is made
-  refusing : {n : ℕ} {z : Cell} {r : Got} → Loaded image state live store (got_of n null) state store → z ≡ null → r ≡ got_of n z → Loaded image state live store r state store
-  refusing {n} w a b = rw (b, a) w
+  -- the returns of the load
+  pub load_not : {o : Result ℕ Refusal} {x : Refusal} → length state ≡ 8256 → says o ≡ outermost_of (parse image) → o ≡ Err x → Loaded image state live store (got_of (number x) null) state store
+  load_not s h e = at_not s (rw e at h)
 
-  pub load_length : {z : Cell} {r : Got} → (length state ≡ 8256 → ⊥) → z ≡ null → r ≡ got_of 6 z → Loaded image state live store r state store
-  load_length h = refusing (at_length h)
+  module _ {n : ℕ} {o : Result ℕ Refusal} (s : length state ≡ 8256) (h : says o ≡ outermost_of (parse image)) (e : o ≡ Ok n) where
+    pub load_full : {m : ℕ} → m ≡ room store → m < 1 + n → Loaded image state live store (got_of 15 null) state store
+    load_full q l = at_full s (rw e at h) (omega arith)
 
-  pub load_not : {n : ℕ} {o : Outermost} {z : Cell} {r : Got} → length state ≡ 8256 → o ≡ outermost_of (parse image) → o ≡ NotRead n → z ≡ null → r ≡ got_of n z → Loaded image state live store r state store
-  load_not s h e = refusing (at_not s (sym e ∙ h))
-
-  module _ {n : ℕ} {o : Outermost} (s : length state ≡ 8256) (h : o ≡ outermost_of (parse image)) (e : o ≡ Captures n) where
-    pub load_full : {m : ℕ} {z : Cell} {r : Got} → m ≡ room store → m < 1 + n → z ≡ null → r ≡ got_of 15 z → Loaded image state live store r state store
-    load_full q l = refusing (at_full s (sym e ∙ h) (omega arith))
-
-    pub load_fresh : {m : ℕ} {r : Got} {state' store' : List ℕ} → m ≡ room store → 1 + n ≤ m → Writes state (fresh_state n) state' × Writes store (fresh_store n ++ drop (1 + n) (cells store)) store' → r ≡ got_of 0 (closure_at 0)
-        → Loaded image state live store r state' store'
-    load_fresh k l w q = rw q (at_fresh s (sym e ∙ h) (omega arith) w.0 w.1)
+    pub load_fresh : {m : ℕ} {state' store' : List ℕ} → m ≡ room store → 1 + n ≤ m → Writes state (fresh_state n) state' × Writes store (fresh_store n ++ drop (1 + n) (cells store)) store'
+        → Loaded image state live store (got_of 0 (closure_at 0)) state' store'
+    load_fresh k l w = at_fresh s (rw e at h) (omega arith) w.0 w.1

@@ -5,19 +5,14 @@ ghost use Rattle.std.specs.Prelude.{◌≡◌, ◌++◌, ◌+◌, ◌≤◌, ◌
 ghost use Rattle.cells.specs.Cells.{room, cells, Writes};
 ghost use Rattle.image.specs.Image.{parse};
 ghost use Rattle.machine.specs.Calls.{clear};
+ghost use Rattle.refusals.specs.Refusals.{number_of};
 ghost use Rattle.asks.specs.Asks.{Asked, Loaded};
+ghost use Rattle.asks.specs.Entries.{says, got_said};
 ghost use Rattle.loading.specs.Fresh.{headed, cleared, fresh_store, fresh_state, outermost_of};
 
-use asks::{Entry, Got};
+use asks::Got;
 use cells::Cell;
-use layout::Read;
-
-// An image: its refusal, or how many captures the outermost code has.
-#[derive(Clone, Copy)]
-pub enum Outermost {
-    NotRead(u32),
-    Captures(usize),
-}
+use refusals::Refusal;
 
 // The mark, what the store uses, and no frame.
 fn headed(state: &mut [u8], used: u64)
@@ -56,16 +51,20 @@ fn cleared(state: &mut [u8])
     cells::put(state, 3, none);
 }
 
+// Memory in form is cleared.
+#[tactic(auto, using(crate::specs::Clearing::clear_not))]
+fn clear_entered(image: &[u8], state: &mut [u8], live: &[u8], store: &[u8]) -> Result<(), Refusal>
+    ensures { Asked clear image.now state.old live.now store.now (number_of result) state.new }
+{
+    asks::entered(image, state, live, store)?;
+    cleared(state);
+    Ok(())
+}
+
 pub fn clear(image: &[u8], state: &mut [u8], live: &[u8], store: &[u8]) -> u32
     ensures { Asked clear image.now state.old live.now store.now result state.new }
 {
-    match asks::entered(image, state, live, store) {
-        Entry::Refused(n) => n,
-        Entry::InForm => {
-            cleared(state);
-            0
-        }
-    }
+    refusals::number_of(clear_entered(image, state, live, store))
 }
 
 // The store of the loaded world: one closure, its captures null.
@@ -103,40 +102,39 @@ fn fresh(state: &mut [u8], store: &mut [u8], captures: usize)
     fresh_state(state, captures);
 }
 
-// The number of captures of the outermost code, or the refusal of an image.
-fn outermost_of(image: &[u8]) -> Outermost
-    ensures { result ≡ outermost_of (parse image.now) }
+// How many captures the outermost code of an image has.
+#[tactic(auto, using(crate::specs::Loading::outermost_not, crate::specs::Loading::outermost_is))]
+fn outermost_of(image: &[u8]) -> Result<usize, Refusal>
+    ensures { says result ≡ outermost_of (parse image.now) }
 {
     let mut rows = [0u32; 2560];
     let mut constants = [0u32; 10923];
     let mut inner = [0u32; 256];
-    match reader::read_image(image, &mut rows, &mut constants, &mut inner) {
-        Read::Refused(n) => Outermost::NotRead(n),
-        Read::Accepted(_, _, _) => Outermost::Captures(program::field(&rows, 0, 5)),
+    reader::read_image(image, &mut rows, &mut constants, &mut inner)?;
+    Ok(program::field(&rows, 0, 5))
+}
+
+// The loaded world is written: its closure.
+fn loaded(image: &[u8], state: &mut [u8], live: &[u8], store: &mut [u8]) -> Result<Cell, Refusal>
+    ensures { Loaded image.now state.old live.now store.old (got_said (says result)) state.new store.new }
+{
+    if state.len() != 8256 {
+        return Err(Refusal::BadLoan);
     }
+    let captures = outermost_of(image)?;
+    if 1 + captures > cells::room(store) {
+        return Err(Refusal::StoreFull);
+    }
+    fresh(state, store, captures);
+    Ok(Cell {
+        tag: 7,
+        number: 0,
+        payload: 0,
+    })
 }
 
 pub fn load(image: &[u8], state: &mut [u8], live: &[u8], store: &mut [u8]) -> Got
     ensures { Loaded image.now state.old live.now store.old result state.new store.new }
 {
-    if state.len() != 8256 {
-        return asks::answered(6, asks::null());
-    }
-    match outermost_of(image) {
-        Outermost::NotRead(n) => asks::answered(n, asks::null()),
-        Outermost::Captures(captures) => {
-            if 1 + captures > cells::room(store) {
-                return asks::answered(15, asks::null());
-            }
-            fresh(state, store, captures);
-            asks::answered(
-                0,
-                Cell {
-                    tag: 7,
-                    number: 0,
-                    payload: 0,
-                },
-            )
-        }
-    }
+    asks::answered(loaded(image, state, live, store))
 }

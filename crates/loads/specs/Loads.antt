@@ -25,6 +25,7 @@ use Rattle.plan.specs.declared.Next.TheVariants.{Goes, Stops}
 use Rattle.plan.specs.Rest.{Same, Block}
 use Rattle.plan.specs.Inside.{Inside, left, Went, DoesWhere, Does}
 use Rattle.plan.proofs.InsideLaws.{goes_fits, goes_short, runs_cost, runs_fits, handlers_few}
+use Rattle.refusals.specs.declared.Refusal.TheVariants.{FewValues, LiveFull}
 
 -- ---- A frame that goes on, or can't
 module _ {P : Program} {z : Sizes} {m : M} {r : Running} {g : registers.Running} {L S : List Cell} (i : Inside P z m r g L S) where
@@ -57,7 +58,7 @@ still : (s : List ℕ) → Same s s
 still s = record { rest = refl; len = refl }
 
 -- an opcode that is refused for what its stack has
-refused_does : {P : Program} {op x : ℕ} {g : registers.Running} {live : List ℕ} → ((m : M) (r : Running) → g.stack ≡ length r.stack → opcode_action P m r op x ≡ refuses 12) → Does P op x g (Stops 12) live live
+refused_does : {P : Program} {op x : ℕ} {g : registers.Running} {live : List ℕ} → ((m : M) (r : Running) → g.stack ≡ length r.stack → opcode_action P m r op x ≡ refuses 12) → Does P op x g (Stops FewValues) live live
 unfolding outcome
 refused_does {P} {live = live} h = record { next = λ z m r S q i. (ap (λ (t : Taken). outcome P z t m) (h m r i.runs.counts.stack), refl); same = still live }
 
@@ -74,7 +75,7 @@ module _ {v : Cell} {g : registers.Running} {old : List ℕ} where
     };
   }
 
-  pub push_stops : {e n : ℕ} → e ≡ end_of g → n ≡ room old → n ≤ e → Pushes v g (Stops 14) old old
+  pub push_stops : {e n : ℕ} → e ≡ end_of g → n ≡ room old → n ≤ e → Pushes v g (Stops LiveFull) old old
   push_stops a b le = record { does = λ P op x. record { next = λ z m r S q i. (no_place i v q (omega (arith, length_cells old)), refl); same = still old } }
 
 -- an opcode that pushes v where Q holds
@@ -94,7 +95,7 @@ top_some [] f e = absurd (e refl)
 top_some (v ∷ st) f e = refl
 
 module _ {g : registers.Running} where
-  pub pop_stops : g.stack ≡ 0 → (P : Program) (x : ℕ) (live : List ℕ) → Does P 0 x g (Stops 12) live live
+  pub pop_stops : g.stack ≡ 0 → (P : Program) (x : ℕ) (live : List ℕ) → Does P 0 x g (Stops FewValues) live live
   unfolding opcode_action
   pop_stops e P x live = refused_does (λ m r k. top_none r.stack _ (omega arith))
 
@@ -124,19 +125,19 @@ unfolding both
 reached x st e le = rw (le-leb 1 x (omega arith), le-leb x (length st) le) refl
 
 module _ {g : registers.Running} {x : ℕ} {old : List ℕ} where
-  pub copy_none : x ≡ 0 → (P : Program) → Does P 1 x g (Stops 12) old old
+  pub copy_none : x ≡ 0 → (P : Program) → Does P 1 x g (Stops FewValues) old old
   unfolding opcode_action
   copy_none e P = rw e (refused_does (λ m r k. rw (none_reached r.stack) refl))
 
-  pub copy_past : g.stack < x → (P : Program) → Does P 1 x g (Stops 12) old old
+  pub copy_past : g.stack < x → (P : Program) → Does P 1 x g (Stops FewValues) old old
   unfolding opcode_action
   copy_past lt P = refused_does (λ m r k. rw (unreached x r.stack (omega arith)) refl)
 
-  pub swap_none : x ≡ 0 → (P : Program) → Does P 2 x g (Stops 12) old old
+  pub swap_none : x ≡ 0 → (P : Program) → Does P 2 x g (Stops FewValues) old old
   unfolding opcode_action
   swap_none e P = rw e (refused_does (λ m r k. rw (none_reached r.stack) refl))
 
-  pub swap_past : g.stack < x → (P : Program) → Does P 2 x g (Stops 12) old old
+  pub swap_past : g.stack < x → (P : Program) → Does P 2 x g (Stops FewValues) old old
   unfolding opcode_action
   swap_past lt P = refused_does (λ m r k. rw (unreached x r.stack (omega arith)) refl)
 
@@ -169,7 +170,7 @@ module _ {g : registers.Running} {x : ℕ} {old : List ℕ} where
   pub local_parts : {v u : Cell} {g' : registers.Running} {new : List ℕ} → u ≡ v → ((w : Written) (pre : List Cell) → Top w pre g (cells old) → v ≡ get_or w.locals x null) → Turns (pushed u) g old g' new → (P : Program) → Does P 3 x g (Goes g') old new
   local_parts e h t = local_loaded (λ w pre o. e ∙ h w pre o) (push_goes t)
 
-  pub store_stops : g.stack ≡ 0 → (P : Program) → Does P 7 x g (Stops 12) old old
+  pub store_stops : g.stack ≡ 0 → (P : Program) → Does P 7 x g (Stops FewValues) old old
   unfolding opcode_action
   store_stops e P = refused_does (λ m r k. top_none r.stack _ (omega arith))
 

@@ -18,6 +18,7 @@ use cells::Cell;
 use image::Constant;
 use moves::Running;
 use plan::Next;
+use refusals::Refusal;
 
 // A value is pushed, by whatever opcode pushes it; 14 where there is no room.
 fn push_value(live: &mut [u8], g: Running, v: Cell) -> Next
@@ -27,21 +28,7 @@ fn push_value(live: &mut [u8], g: Running, v: Cell) -> Next
     if moves::end(g) < cells::room(live) {
         return Next::Goes(moves::push(live, g, v));
     }
-    Next::Stops(14)
-}
-
-// The frame with so many values less on its stack.
-pub fn drop_values(g: Running, n: usize) -> Running
-    requires { n ≤ g.stack }
-    ensures { result ≡ record { base = g.base; locals = g.locals; handlers = g.handlers; stack = g.stack - n; place = g.place } }
-{
-    Running {
-        base: g.base,
-        locals: g.locals,
-        handlers: g.handlers,
-        stack: g.stack - n,
-        place: g.place,
-    }
+    Next::Stops(Refusal::LiveFull)
 }
 
 // 0 `Pop`.
@@ -49,9 +36,9 @@ pub fn pop(g: Running) -> Next
     ensures { (P : Program) (x : ℕ) (live : List ℕ) → Does P 0 x g result live live }
 {
     if g.stack == 0 {
-        return Next::Stops(12);
+        return Next::Stops(Refusal::FewValues);
     }
-    Next::Goes(drop_values(g, 1))
+    Next::Goes(g.dropped(1))
 }
 
 // 1 `Copy` counts from 1, the top.
@@ -61,10 +48,10 @@ pub fn copy(live: &mut [u8], g: Running, x: u32) -> Next
 {
     let i = x as usize;
     if i == 0 {
-        return Next::Stops(12);
+        return Next::Stops(Refusal::FewValues);
     }
     if i > g.stack {
-        return Next::Stops(12);
+        return Next::Stops(Refusal::FewValues);
     }
     let v = moves::top(live, g, i - 1);
     push_value(live, g, v)
@@ -77,10 +64,10 @@ pub fn swap(live: &mut [u8], g: Running, x: u32) -> Next
 {
     let i = x as usize;
     if i == 0 {
-        return Next::Stops(12);
+        return Next::Stops(Refusal::FewValues);
     }
     if i > g.stack {
-        return Next::Stops(12);
+        return Next::Stops(Refusal::FewValues);
     }
     let a = moves::top(live, g, 0);
     let b = moves::top(live, g, i - 1);
@@ -158,13 +145,13 @@ pub fn store_local(live: &mut [u8], g: Running, x: u32) -> Next
     ensures { (P : Program) → Does P 7 x g result live.old live.new }
 {
     if g.stack == 0 {
-        return Next::Stops(12);
+        return Next::Stops(Refusal::FewValues);
     }
     let v = moves::top(live, g, 0);
     if v.tag == 2 {
         moves::set_local(live, g, x as usize, by_parts(v));
-        return Next::Goes(drop_values(g, 1));
+        return Next::Goes(g.dropped(1));
     }
     moves::set_local(live, g, x as usize, v);
-    Next::Goes(drop_values(g, 1))
+    Next::Goes(g.dropped(1))
 }

@@ -1,5 +1,5 @@
 -- What an accepted entry says of memory.
-use Rattle.std.specs.Prelude.{◌≡◌, List, Bool, true, false, ℕ, ◌*◌, ◌≤◌, length, get_or, take, eqb}
+use Rattle.std.specs.Prelude.{◌≡◌, Result, Ok, Err, List, Bool, true, false, ℕ, ◌*◌, ◌≤◌, length, get_or, take, eqb}
 use Rattle.std.proofs.Math.Path.{refl}
 use Rattle.std.proofs.Common.{sym, ap, subst, ◌∙◌, arith, length-take, eqb-true}
 use Rattle.cells.specs.Cells.{null, room, cells}
@@ -7,16 +7,17 @@ use Rattle.cells.specs.CellsLaws.{length_cells}
 use Rattle.cells.specs.Parts.{cells_lent}
 use Rattle.fuel.specs.Loans.{read}
 use Rattle.fuel.specs.declared.Fuel.{Fuel}
-use Rattle.fuel.specs.declared.Loan.{Loan}
-use Rattle.fuel.specs.declared.Loan.TheVariants as loan
+use Rattle.refusals.specs.declared.Refusal.{Refusal}
+use Rattle.refusals.specs.Refusals.{number}
 use Rattle.image.specs.Records.{if?, Answer, refused, accepted, then}
 use Rattle.image.specs.Program.{Code}
 use Rattle.image.specs.Fine.{Accepted}
 use Rattle.image.specs.Image.{parse}
 use Rattle.image.proofs.Accepted.{accepted_fine}
 use Rattle.layout.specs.Reads.{Low}
-use Rattle.layout.specs.declared.Read.{Read}
-use Rattle.layout.specs.declared.Read.TheVariants as reads
+use Rattle.layout.specs.declared.Sizes as tables
+use Rattle.refusals.specs.Refusals.{number}
+use Rattle.refusals.specs.declared.Refusal.{Refusal}
 use Rattle.reader.specs.Reads.{Fits}
 use Rattle.machine.specs.Values.{Program}
 use Rattle.memory.specs.Tests.{in_form}
@@ -79,13 +80,13 @@ front_room s n = omega (arith, length_cells (take (16 * n) s), ap length (cells_
 abbrev pub tabled : (image rows constants inner : List ℕ) (c u k : ℕ) → Program
 tabled image rows constants inner c u k = program_in image (take (10 * c) rows) (take u constants) (take k inner) c
 
-module _ (image state live store : List ℕ) {x : Read} {rows constants inner : List ℕ} (y : Enters image state live store x rows constants inner) where
-  pub un_entered : {n : ℕ} → x ≡ reads.Refused n → entry image state live store ≡ refused n
+module _ (image state live store : List ℕ) {x : Result tables.Sizes Refusal} {rows constants inner : List ℕ} (y : Enters image state live store x rows constants inner) where
+  pub un_entered : {r : Refusal} → x ≡ Err r → entry image state live store ≡ refused (number r)
   un_entered a = sym (rw a at y.does)
 
-  module _ {c u k : ℕ} (a : x ≡ reads.Accepted c u k) where
+  module _ {h : tables.Sizes} (a : x ≡ Ok h) where
     abbrev P : Program
-    P = tabled image rows constants inner c u k
+    P = tabled image rows constants inner h.codes h.constants h.inner
 
     abbrev found : form.Entered
     found = record { program = P; world = view_of state live store }
@@ -105,22 +106,22 @@ module _ (image state live store : List ℕ) {x : Read} {rows constants inner : 
       block = is_ready_lem.0.size;
     }
 
-    pub call_fits : 2560 ≤ length rows → 10923 ≤ length constants → 256 ≤ length inner → Fits c u k rows constants inner
+    pub call_fits : 2560 ≤ length rows → 10923 ≤ length constants → 256 ≤ length inner → Fits h.codes h.constants h.inner rows constants inner
     call_fits b d g =
-        let low : Low c u k = rw a at y.low in
+        let low : Low h.codes h.constants h.inner = rw a at y.low in
         record { codes = low.codes; rows = b; constants = omega (arith, low.used); inner = omega (arith, low.codes, low.kept) }
 
 -- ---- With the fuel that a call is lent
-module _ (image state live store fuel : List ℕ) {o : Loan} (w : o ≡ read fuel) where
-  pub un_lent : {n : ℕ} → o ≡ loan.Refused n → fueled (read fuel) (entry image state live store) ≡ refused n
+module _ (image state live store fuel : List ℕ) {o : Result Fuel Refusal} (w : o ≡ read fuel) where
+  pub un_lent : {r : Refusal} → o ≡ Err r → fueled (read fuel) (entry image state live store) ≡ refused (number r)
   un_lent e = rw (sym w ∙ e) refl
 
-  module _ {f : Fuel} (e : o ≡ loan.Held f) {x : Read} {rows constants inner : List ℕ} (y : Enters image state live store x rows constants inner) where
-    pub lent_un_entered : {n : ℕ} → x ≡ reads.Refused n → fueled (read fuel) (entry image state live store) ≡ refused n
+  module _ {f : Fuel} (e : o ≡ Ok f) {x : Result tables.Sizes Refusal} {rows constants inner : List ℕ} (y : Enters image state live store x rows constants inner) where
+    pub lent_un_entered : {r : Refusal} → x ≡ Err r → fueled (read fuel) (entry image state live store) ≡ refused (number r)
     unfolding with_fuel
     lent_un_entered a = rw (sym w ∙ e, un_entered image state live store y a) refl
 
-    pub lent_entered : {c u k : ℕ} → x ≡ reads.Accepted c u k
-        → fueled (read fuel) (entry image state live store) ≡ accepted (record { fuel = f; entered = record { program = tabled image rows constants inner c u k; world = view_of state live store } })
+    pub lent_entered : {h : tables.Sizes} → x ≡ Ok h
+        → fueled (read fuel) (entry image state live store) ≡ accepted (record { fuel = f; entered = record { program = tabled image rows constants inner h.codes h.constants h.inner; world = view_of state live store } })
     unfolding with_fuel
     lent_entered a = rw (sym w ∙ e, is_entered image state live store y a) refl

@@ -1,8 +1,8 @@
 -- Over whole loans: what is used of them is cut to its most; fuel and memory, as a call finds them.
-use Rattle.std.specs.Prelude.{List, ℕ, length, take, ltb}
+use Rattle.std.specs.Prelude.{Result, Ok, Err, List, ℕ, length, take, ltb}
 use Rattle.fuel.specs.declared.Fuel.{Fuel}
-use Rattle.fuel.specs.declared.Loan.{Loan}
-use Rattle.fuel.specs.declared.Loan.TheVariants.{Held, Refused}
+use Rattle.refusals.specs.declared.Refusal.{Refusal}
+use Rattle.refusals.specs.Refusals.{number}
 use Rattle.image.specs.Records.{if?, Answer, refused, accepted}
 use Rattle.machine.specs.Calls.{Sizes}
 use Rattle.form.specs.Entry.{Entered, live_of, store_of}
@@ -28,6 +28,6 @@ unfoldable pub with_fuel : Fuel → Answer Entered → Answer Fueled
 with_fuel f (refused n) = refused n
 with_fuel f (accepted e) = accepted (record { fuel = f; entered = e })
 
-abbrev pub fueled : Loan → Answer Entered → Answer Fueled
-fueled (Refused n) e = refused n
-fueled (Held f) e = with_fuel f e
+abbrev pub fueled : Result Fuel Refusal → Answer Entered → Answer Fueled
+fueled (Err r) e = refused (number r)
+fueled (Ok f) e = with_fuel f e

@@ -1,75 +1,132 @@
-// What a code has, by its row in the tables: counts, opcodes, globals, captures, constants, codes.
+// A program as it is lent: the image, and the tables that the reader filled. What a code has is looked up by its row: counts, opcodes, globals, captures, constants, codes.
 #![tactic(auto)]
 
-ghost use Rattle.std.specs.Prelude.{◌≡◌, [], ◌<◌, get_or};
+ghost use Rattle.std.specs.Prelude.{◌≡◌, [], ℕ, ◌<◌, get_or};
 ghost use Rattle.image.specs.Program.{no_op};
 ghost use Rattle.image.specs.Layout.{field, code_at};
 ghost use Rattle.program.specs.Looks.{body_at, no_capture, no_constant};
 
 use image::{Capture, Constant, Op};
 
-// The parameter count of code k.
-pub fn params(image: &[u8], rows: &[u32], k: usize) -> u16
-    requires { k < 4294967296 }
-    ensures { result ≡ (body_at image.now rows.now k).params }
-{
-    program::le16(image, program::entry(rows, 10 * k))
+// A row of ten numbers for each code; the places of all constants; the numbers of the codes in each code; how many codes there are.
+#[derive(Clone, Copy)]
+pub struct Program<'a> {
+    pub image: &'a [u8],
+    pub rows: &'a [u32],
+    pub constants: &'a [u32],
+    pub inner: &'a [u32],
+    pub codes: usize,
+    // What a row counts is a number of 32 bits, as all of the table is.
+    pub ghost words: { (i : ℕ) → get_or rows.now i 0 < 4294967296 },
 }
 
-// Its variadic mark.
-pub fn variadic(image: &[u8], rows: &[u32], k: usize) -> u16
-    requires { k < 4294967296 }
-    ensures { result ≡ (body_at image.now rows.now k).variadic }
-{
-    program::le16(image, program::entry(rows, 10 * k) + 2)
+impl Program<'_> {
+    // The parameter count of code k.
+    pub fn params(&self, k: usize) -> u16
+        requires { k < 4294967296 }
+        ensures { result ≡ (body_at self.now.image.now self.now.rows.now k).params }
+    {
+        program::le16(self.image, program::entry(self.rows, 10 * k))
+    }
+
+    // Its variadic mark.
+    pub fn variadic(&self, k: usize) -> u16
+        requires { k < 4294967296 }
+        ensures { result ≡ (body_at self.now.image.now self.now.rows.now k).variadic }
+    {
+        program::le16(self.image, program::entry(self.rows, 10 * k) + 2)
+    }
+
+    // How many locals it has.
+    pub fn locals(&self, k: usize) -> u16
+        requires { k < 4294967296 }
+        ensures { result ≡ (body_at self.now.image.now self.now.rows.now k).locals }
+    {
+        program::le16(self.image, program::entry(self.rows, 10 * k) + 4)
+    }
+
+    // How many opcodes it has.
+    pub fn opcode_count(&self, k: usize) -> usize
+        requires { k < 4294967296 }
+        ensures { (result ≡ field self.now.rows.now k 1) × (result < 4294967296) }
+    {
+        program::field(self.rows, k, 1)
+    }
+
+    // Opcode i of code k.
+    pub fn opcode(&self, k: usize, i: usize) -> Op
+        requires { (k < 4294967296) × (i < field self.now.rows.now k 1) }
+        ensures { result ≡ get_or (body_at self.now.image.now self.now.rows.now k).opcodes i no_op }
+    {
+        program::opcode_at(self.image, program::entry(self.rows, 10 * k) + 14, i)
+    }
+
+    // The name number of its global i.
+    pub fn global(&self, k: usize, i: usize) -> u16
+        requires { (k < 4294967296) × (i < field self.now.rows.now k 3) }
+        ensures { result ≡ get_or (body_at self.now.image.now self.now.rows.now k).globals i 0 }
+    {
+        program::le16(self.image, program::entry(self.rows, 10 * k + 2) + 2 * i)
+    }
+
+    // How many captures it has.
+    pub fn capture_count(&self, k: usize) -> usize
+        requires { k < 4294967296 }
+        ensures { (result ≡ field self.now.rows.now k 5) × (result < 4294967296) }
+    {
+        program::field(self.rows, k, 5)
+    }
+
+    // Its capture i.
+    pub fn capture(&self, k: usize, i: usize) -> Capture
+        requires { (k < 4294967296) × (i < field self.now.rows.now k 5) }
+        ensures { result ≡ get_or (body_at self.now.image.now self.now.rows.now k).captures i no_capture }
+    {
+        program::capture_at(self.image, program::entry(self.rows, 10 * k + 4), i)
+    }
+
+    // How many constants it has.
+    pub fn constant_count(&self, k: usize) -> usize
+        requires { k < 4294967296 }
+        ensures { (result ≡ field self.now.rows.now k 7) × (result < 4294967296) }
+    {
+        program::field(self.rows, k, 7)
+    }
+
+    // Its constant i.
+    pub fn constant(&self, k: usize, i: usize) -> Constant
+        requires { (k < 4294967296) × (i < field self.now.rows.now k 7) }
+        ensures { result ≡ get_or (code_at self.now.image.now self.now.rows.now self.now.constants.now [] k).constants i no_constant }
+    {
+        let from = program::entry(self.rows, 10 * k + 6);
+        program::constant_at(self.image, program::entry(self.constants, from + i))
+    }
+
+    // The number of the code that is its code j.
+    pub fn inner_code(&self, k: usize, j: usize) -> usize
+        requires { (k < 4294967296) × (j < field self.now.rows.now k 9) }
+        ensures { result ≡ get_or (code_at [] self.now.rows.now [] self.now.inner.now k).codes j 0 }
+    {
+        let from = program::entry(self.rows, 10 * k + 8);
+        program::entry(self.inner, from + j)
+    }
 }
 
-// How many locals it has.
-pub fn locals(image: &[u8], rows: &[u32], k: usize) -> u16
-    requires { k < 4294967296 }
-    ensures { result ≡ (body_at image.now rows.now k).locals }
+// The program that the fronts of the reader's tables hold.
+pub fn made<'a>(
+    image: &'a [u8],
+    rows: &'a [u32],
+    constants: &'a [u32],
+    inner: &'a [u32],
+    codes: usize,
+) -> Program<'a>
+    ensures { (result.image.now ≡ image.now) × (result.rows.now ≡ rows.now) × (result.constants.now ≡ constants.now) × (result.inner.now ≡ inner.now) × (result.codes ≡ codes) }
 {
-    program::le16(image, program::entry(rows, 10 * k) + 4)
-}
-
-// Opcode i of code k.
-pub fn opcode(image: &[u8], rows: &[u32], k: usize, i: usize) -> Op
-    requires { (k < 4294967296) × (i < field rows.now k 1) }
-    ensures { result ≡ get_or (body_at image.now rows.now k).opcodes i no_op }
-{
-    program::opcode_at(image, program::entry(rows, 10 * k) + 14, i)
-}
-
-// The name number of its global i.
-pub fn global(image: &[u8], rows: &[u32], k: usize, i: usize) -> u16
-    requires { (k < 4294967296) × (i < field rows.now k 3) }
-    ensures { result ≡ get_or (body_at image.now rows.now k).globals i 0 }
-{
-    program::le16(image, program::entry(rows, 10 * k + 2) + 2 * i)
-}
-
-// Its capture i.
-pub fn capture(image: &[u8], rows: &[u32], k: usize, i: usize) -> Capture
-    requires { (k < 4294967296) × (i < field rows.now k 5) }
-    ensures { result ≡ get_or (body_at image.now rows.now k).captures i no_capture }
-{
-    program::capture_at(image, program::entry(rows, 10 * k + 4), i)
-}
-
-// Its constant i.
-pub fn constant(image: &[u8], rows: &[u32], constants: &[u32], k: usize, i: usize) -> Constant
-    requires { (k < 4294967296) × (i < field rows.now k 7) }
-    ensures { result ≡ get_or (code_at image.now rows.now constants.now [] k).constants i no_constant }
-{
-    let from = program::entry(rows, 10 * k + 6);
-    program::constant_at(image, program::entry(constants, from + i))
-}
-
-// The number of the code that is its code j.
-pub fn inner_code(rows: &[u32], inner: &[u32], k: usize, j: usize) -> usize
-    requires { (k < 4294967296) × (j < field rows.now k 9) }
-    ensures { result ≡ get_or (code_at [] rows.now [] inner.now k).codes j 0 }
-{
-    let from = program::entry(rows, 10 * k + 8);
-    program::entry(inner, from + j)
+    Program {
+        image,
+        rows,
+        constants,
+        inner,
+        codes,
+    }
 }

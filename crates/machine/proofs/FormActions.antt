@@ -1,5 +1,5 @@
 -- What a step or a request takes from a machine in form is in form: the values that it leaves exist, and its counts are within their limits.
-use Rattle.std.specs.Prelude.{◌≡◌, Bool, not, take, set, leb, ltb, eqb}
+use Rattle.std.specs.Prelude.{◌≡◌, Option, Some, None, Bool, not, take, set, leb, ltb, eqb}
 use Rattle.std.proofs.Math.Path.{refl}
 use mathlib.Core.List.{List, [], ◌∷◌, ◌++◌, reverse, map}
 use Rattle.std.proofs.Math.Bool.{true, false}
@@ -16,8 +16,6 @@ use Rattle.image.specs.Fine.{Accepted, no_constant, bytes_of}
 use Rattle.image.proofs.Parts.{first, second}
 use Rattle.image.specs.declared.Capture.{Capture}
 use Rattle.ints.specs.Ints.{half, div, rem, lt, le, gt, ge}
-use Rattle.ints.specs.declared.Division.{Division}
-use Rattle.ints.specs.declared.Division.TheVariants.{Of, ZeroDivisor}
 use Rattle.machine.specs.Values.{Program, code_of, type_of, is_null, is_effect, equal, equal_effects, match_effect_handler, effect_params, un_operator, Computed, computes, fails, divides, unary, of_ints, binary}
 use Rattle.machine.specs.Machine.{Handler, Frame, lucia, host, effect_callback, Object, closure, list, continuation, M, frame_cost, frames_cost, Lookup, here, absent, object_at, effects, function_of}
 use Rattle.machine.specs.Opcodes.{Action, performs, throws, clears, Taken, takes, refuses, Running, stacked, with_top, with_two, computed, reaches, swapped, captured, load_const, load_global, Operands, operands_of, callable, call_taken, build_list, pop_jump, jump_or_pop, registered, register_handler, check_effect, between, opcode_action, closure_action, next_action}
@@ -49,10 +47,10 @@ module _ (P : Program) (s : List Object) where
       (λ _. if_cases ComputedFits (eqb v.tag 2) _ _ (λ _. refl) (λ _. (omega arith, t)))
       (λ _. if_cases ComputedFits (eqb v.tag 1) _ _ (λ _. bool_value P s (eqb v.number 0)) (λ _. (l, t)))
 
-  divides_fits : (d : Division) → ComputedFits (divides d)
+  divides_fits : (d : Option ℕ) → ComputedFits (divides d)
   unfolding divides is_value
-  divides_fits (Of n) = refl
-  divides_fits ZeroDivisor = tt
+  divides_fits (Some n) = refl
+  divides_fits None = tt
 
   ints_fits : (op a b : ℕ) → ComputedFits (of_ints op a b)
   unfolding of_ints is_value

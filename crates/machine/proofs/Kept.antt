@@ -2,7 +2,7 @@
 use Rattle.std.proofs.Math.Path.{◌≡◌, refl, ap}
 use Rattle.std.proofs.Common.{sym, ◌∙◌}
 use mathlib.Core.List.{List, [], ◌∷◌, reverse}
-use Rattle.std.specs.Prelude.{◌⊎◌, Bool, ℕ, ◌+◌, ◌≤◌, length, take, drop, eqb, ltb}
+use Rattle.std.specs.Prelude.{◌⊎◌, Option, Some, None, Bool, ℕ, ◌+◌, ◌≤◌, length, take, drop, eqb, ltb}
 use Rattle.std.proofs.Math.Logic.{inl, inr, ⊎_elim}
 use Rattle.std.proofs.Math.Bool.{true, false}
 use native.Mathlib.Omega.{arith}
@@ -15,8 +15,6 @@ use Rattle.image.specs.Records.{if?, both}
 use Rattle.image.specs.Program.{no_op}
 use Rattle.image.specs.Fine.{no_constant}
 use Rattle.ints.specs.Ints.{half, div, rem}
-use Rattle.ints.specs.declared.Division.{Division}
-use Rattle.ints.specs.declared.Division.TheVariants.{Of, ZeroDivisor}
 use Rattle.machine.specs.Values.{Program, code_of, builtin, divides, of_ints, is_null, is_effect, equal_effects, match_effect_handler, effect_params, type_of, Error, un_operator, bin_operator, meta_un_operator, thrown, Computed, computes, fails, unary, binary, lucia_error, lucia_panic, shown}
 use Rattle.machine.specs.Machine.{Handler, Frame, lucia, host, effect_callback, Object, closure, list, continuation, M, Lookup, here, absent, object_at, function_of, Result, running, returned, failed, unhandled}
 use Rattle.machine.specs.Opcodes.{Action, goes, jumps, makes, sets, performs, throws, returns, doing, Taken, takes, Running, with_top, with_two, computed, reaches, load_const, Operands, operands_of, callable, call_taken, build_list, pop_jump, jump_or_pop, registered, register_handler, check_effect, between, opcode_action, closure_action, next_action, sets_builtin, calls, clears, refuses}
@@ -70,10 +68,10 @@ unfolding unary thrown
 unary_errs op v =
     if_cases Errs (eqb op 17) _ _ (λ _. if_cases Errs (eqb v.tag 2) _ _ (λ _. tt) (λ _. refl)) (λ _. if_cases Errs (eqb v.tag 1) _ _ (λ _. tt) (λ _. refl))
 
-divides_errs : (d : Division) → Errs (divides d)
+divides_errs : (d : Option ℕ) → Errs (divides d)
 unfolding divides thrown
-divides_errs (Of n) = tt
-divides_errs ZeroDivisor = refl
+divides_errs (Some n) = tt
+divides_errs None = refl
 
 ints_errs : (op a b : ℕ) → Errs (of_ints op a b)
 unfolding of_ints

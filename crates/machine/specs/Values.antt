@@ -1,5 +1,5 @@
 -- Values. A value is one cell (docs/LAYOUT.md): a tag, of which the type is the remainder by 16, a number and a payload. Equal values are equal cells.
-use Rattle.std.specs.Prelude.{List, Bool, true, false, not, ℕ, ◌+◌, ◌-◌, ◌%◌, get_or, eqb}
+use Rattle.std.specs.Prelude.{List, Option, Some, None, Bool, true, false, not, ℕ, ◌+◌, ◌-◌, ◌%◌, get_or, eqb}
 use Rattle.cells.specs.Le.{le_at}
 use Rattle.cells.specs.declared.Cell.{Cell}
 use Rattle.image.specs.Records.{if?, both}
@@ -8,8 +8,6 @@ use Rattle.image.specs.Fine.{no_constant, bytes_of}
 use Rattle.image.specs.Effects.{same, same_effect}
 use Rattle.image.specs.declared.Constant.{Constant}
 use Rattle.ints.specs.Ints.{half, neg, add, sub, mul, div, rem, lt, le, gt, ge}
-use Rattle.ints.specs.declared.Division.{Division}
-use Rattle.ints.specs.declared.Division.TheVariants.{Of, ZeroDivisor}
 
 -- A loaded image with its program.
 pub record Program : Type 0 where
@@ -134,9 +132,9 @@ pub data Computed : Type 0 where
   computes : Cell → Computed
   fails : Error → Computed
 
-unfoldable pub divides : Division → Computed
-divides (Of n) = computes (int n)
-divides ZeroDivisor = fails zero_divisor
+unfoldable pub divides : Option ℕ → Computed
+divides (Some n) = computes (int n)
+divides None = fails zero_divisor
 
 -- `Neg` takes an Int, `Not` a Bool
 unfoldable pub unary : ℕ → Cell → Computed

@@ -1,5 +1,5 @@
 -- Closures of inner codes: what the running frame can capture, and one law for each answer of `captured` and `make_closure`.
-use Rattle.std.specs.Prelude.{◌≡◌, refl, List, [], ◌∷◌, ◌++◌, map, ℕ, suc, ◌+◌, ◌-◌, ◌<◌, ◌≤◌, length, get_or, set, take}
+use Rattle.std.specs.Prelude.{◌≡◌, refl, List, [], ◌∷◌, ◌++◌, map, ℕ, suc, ◌+◌, ◌-◌, ◌<◌, ◌≤◌, length, get_or, set, take, Ok, Err}
 use Rattle.std.proofs.Common.{sym, ap, subst, ◌∙◌, arith, set-set, take-suc, take_all, length-take-le, eq-eqb, ne_eqb}
 use Rattle.std.proofs.lemmas.List.{length-map}
 use Rattle.std.proofs.Math.ListN.{get_or-map}
@@ -30,7 +30,7 @@ use Rattle.plan.specs.Inside.{Inside}
 use Rattle.plan.proofs.InsideLaws.{runs_fits}
 use Rattle.makes.specs.Made.{Named, Closable, MakesClosure, Capturable, Captured}
 use Rattle.makes.specs.Lists.{still, same_cells, no_live_lem, no_store_lem, made_on}
-use Rattle.makes.specs.declared.Made.TheVariants.{On, Refused}
+use Rattle.refusals.specs.declared.Refusal.TheVariants.{LiveFull, StoreFull}
 
 -- ---- A capture is read
 module _ {image rows : List ℕ} {g : registers.Running} {handle code i : ℕ} {live store : List ℕ} {c : Capture} where
@@ -150,7 +150,7 @@ module _ {P : Program} {image rows : List ℕ} (T : Tabled P image rows) {g : re
 
 -- ---- There is no room
 module _ {g : registers.Running} {handle u x code : ℕ} {live store : List ℕ} {e a : ℕ} (is : e ≡ end_of g) (b : a ≡ room live) where
-  pub closure_no_live : {P : Program} → a ≤ e → MakesClosure P g handle u x code (Refused 14) live store live store
+  pub closure_no_live : {P : Program} → a ≤ e → MakesClosure P g handle u x code (Err LiveFull) live store live store
   closure_no_live le = record {
     next = λ z m r i q w h v. (no_live_lem i _ _ _ (takes_closure (record { inside = i; accepted = q; uses = w; closure = h; named = v })) i.runs (omega (arith, length_cells live)), refl, refl);
     same_live = still live;
@@ -158,7 +158,7 @@ module _ {g : registers.Running} {handle u x code : ℕ} {live store : List ℕ}
   }
 
   pub closure_no_store : (image rows constants inner : List ℕ) (codes : ℕ) {n s : ℕ} → (n ≡ field rows code 5) × (n < 4294967296) → e < a → s ≡ room store → s - u < 1 + n
-      → MakesClosure (program_in image rows constants inner codes) g handle u x code (Refused 15) live store live store
+      → MakesClosure (program_in image rows constants inner codes) g handle u x code (Err StoreFull) live store live store
   closure_no_store image rows constants inner codes c lt d f = record {
     next = λ z m r i q w h v.
         let k : Making (program_in image rows constants inner codes) g handle u x code (cells live) (cells store) z m r = record { inside = i; accepted = q; uses = w; closure = h; named = v } in
@@ -283,7 +283,7 @@ module _ {P : Program} {image rows : List ℕ} {g : registers.Running} {handle u
 
   -- all are put, and the closure is pushed
   pub closure_made : {old live' : List ℕ} {g' : registers.Running} → Writes old (set (cells old) u (cell 128 code n)) store → n ≤ i → Turns (pushed (cell 7 u 0)) g live g' live'
-      → MakesClosure P g handle u x code (On g' (u + 1 + n)) live old live' new
+      → MakesClosure P g handle u x code (Ok (record { g = g'; used = u + 1 + n })) live old live' new
   closure_made {old} {live'} {g'} b le t = record {
     next = λ z m r y q w h v.
         let lt : u < room old = omega (arith, o.fits, b.len) in

@@ -19,6 +19,7 @@ use Rattle.plan.proofs.InsideLaws.{judge_does, runs_cost, runs_fits}
 use Rattle.plan.specs.declared.Next.TheVariants.{Goes, Stops}
 use Rattle.makes.specs.Made.{SetsGlobal}
 use Rattle.makes.specs.Lists.{still, no_result}
+use Rattle.refusals.specs.declared.Refusal.TheVariants.{FewValues}
 
 -- the opcode takes the top value, if there is one
 takes_none : (P : Program) (m : M) (r : Running) (x : ℕ) → length r.stack ≡ 0 → opcode_action P m r 8 x ≡ refuses 12
@@ -38,7 +39,7 @@ takes_top P m r x = by r.stack (λ v st. sets (get_or r.code.globals x 0) v (sta
     by (v ∷ st) f e = refl
 
 module _ {g : registers.Running} {x name : ℕ} {live state : List ℕ} where
-  pub global_none : g.stack ≡ 0 → (P : Program) → SetsGlobal P g x name (Stops 12) live state state
+  pub global_none : g.stack ≡ 0 → (P : Program) → SetsGlobal P g x name (Stops FewValues) live state state
   unfolding outcome
   global_none z P = record {
     next = λ s m r S i b n. (ap (λ (t : Taken). outcome P s t m) (takes_none P m r x (omega (arith, i.runs.counts.stack))), refl);

@@ -1,5 +1,5 @@
 -- An object that is made and pushed, judged by where frame and store would end; and one law for each answer of 10 `BuildList`.
-use Rattle.std.specs.Prelude.{◌≡◌, List, [], ◌∷◌, ◌++◌, reverse, ℕ, ◌+◌, ◌-◌, ◌/◌, ◌<◌, ◌≤◌, length, take, drop}
+use Rattle.std.specs.Prelude.{◌≡◌, List, [], ◌∷◌, ◌++◌, reverse, ℕ, ◌+◌, ◌-◌, ◌/◌, ◌<◌, ◌≤◌, length, take, drop, Ok, Err}
 use Rattle.std.proofs.Math.Path.{refl, ap}
 use Rattle.std.proofs.Common.{sym, subst, ◌∙◌, arith, le-leb}
 use Rattle.std.proofs.Math.ListN.{length-reverse}
@@ -21,7 +21,7 @@ use Rattle.plan.proofs.Appended.{appends_refl, appends_made}
 use Rattle.plan.specs.Inside.{Inside}
 use Rattle.plan.proofs.InsideLaws.{judge_does, judge_live, judge_store, runs_cost, runs_fits}
 use Rattle.makes.specs.Made.{MadeOn, Makes}
-use Rattle.makes.specs.declared.Made.TheVariants.{On, Refused}
+use Rattle.refusals.specs.declared.Refusal.TheVariants.{FewValues, LiveFull, StoreFull}
 
 -- no byte changes
 pub still : (s : List ℕ) → Same s s
@@ -100,20 +100,20 @@ module _ {P : Program} {z : Sizes} {m : M} {r : Running} {g : registers.Running}
     popped d = rw d (pop_top i.runs x le)
 
 module _ {x : ℕ} {g : registers.Running} {u : ℕ} {live store : List ℕ} where
-  pub list_few : g.stack < x → (P : Program) → Makes P 10 x g u (Refused 12) live store live store
+  pub list_few : g.stack < x → (P : Program) → Makes P 10 x g u (Err FewValues) live store live store
   unfolding outcome
   list_few lt P = record { next = λ z m r i e. (ap (λ (t : Taken). outcome P z t m) (takes_none i x lt), refl, refl); same_live = still live; appends = appends_refl u store }
 
   module _ (le : x ≤ g.stack) {h : registers.Running} (d : h ≡ with_counts g.handlers (g.stack - x) g) where
     module _ {e n : ℕ} (a : e ≡ end_of h) (b : n ≡ room live) where
-      pub list_no_live : n ≤ e → (P : Program) → Makes P 10 x g u (Refused 14) live store live store
+      pub list_no_live : n ≤ e → (P : Program) → Makes P 10 x g u (Err LiveFull) live store live store
       list_no_live l P = record {
         next = λ z m r i w. (no_live_lem i _ _ _ (takes_list i x le) (popped i x le d) (omega (arith, length_cells live)), refl, refl);
         same_live = still live;
         appends = appends_refl u store;
       }
 
-      pub list_no_store : {k : ℕ} → e < n → k ≡ room store → u ≤ room store → k - u < 1 + x → (P : Program) → Makes P 10 x g u (Refused 15) live store live store
+      pub list_no_store : {k : ℕ} → e < n → k ≡ room store → u ≤ room store → k - u < 1 + x → (P : Program) → Makes P 10 x g u (Err StoreFull) live store live store
       list_no_store l c s f P = record {
         next = λ z m r i w.
             (no_store_lem i _ _ _ (takes_list i x le) (popped i x le d) (omega (arith, length_cells live)) (omega (arith, list_cost i x le, length_cells store)), refl, refl);
@@ -122,7 +122,7 @@ module _ {x : ℕ} {g : registers.Running} {u : ℕ} {live store : List ℕ} whe
       }
 
     pub list_made : {e k : ℕ} {g' : registers.Running} {live' store' : List ℕ} → e ≡ end_of h → k ≡ room store → u ≤ room store → 1 + x ≤ k - u
-        → Writes store (made (cells store) u 129 0 (cells live) e x) store' → Turns (pushed (cell 6 u 0)) h live g' live' → (P : Program) → Makes P 10 x g u (On g' (u + 1 + x)) live store live' store'
+        → Writes store (made (cells store) u 129 0 (cells live) e x) store' → Turns (pushed (cell 6 u 0)) h live g' live' → (P : Program) → Makes P 10 x g u (Ok (record { g = g'; used = u + 1 + x })) live store live' store'
     list_made {e} {g' = g'} {live'} {store'} a c s f w t P = record {
       next = λ z m r i q.
           let n = list_cost i x le in

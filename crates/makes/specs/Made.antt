@@ -1,5 +1,5 @@
 -- What opcodes leave that make an object or set a global.
-use Rattle.std.specs.Prelude.{◌≡◌, List, [], ◌∷◌, ◌++◌, ℕ, ◌+◌, ◌<◌, ◌≤◌, length, get_or}
+use Rattle.std.specs.Prelude.{◌≡◌, List, [], ◌∷◌, ◌++◌, ℕ, ◌+◌, ◌<◌, ◌≤◌, length, get_or, Result, Ok, Err}
 use Rattle.cells.specs.Cells.{room, cells, Sound}
 use Rattle.cells.specs.Le.{le_at}
 use Rattle.cells.specs.declared.Cell.{Cell}
@@ -18,7 +18,8 @@ use Rattle.plan.specs.Inside.{Inside, left}
 use Rattle.plan.specs.declared.Next.{Next}
 use Rattle.plan.specs.declared.Next.TheVariants.{Goes, Jumps, Throws, Stops}
 use Rattle.makes.specs.declared.Made.{Made}
-use Rattle.makes.specs.declared.Made.TheVariants.{On, Refused}
+use Rattle.refusals.specs.declared.Refusal.{Refusal}
+use Rattle.refusals.specs.Refusals.{number}
 
 -- ---- An object is made
 -- the outcome makes an object, which S has at its end, and leaves the frame as g and L have it
@@ -33,16 +34,16 @@ pub record MadeOn (o : Outcome) (m : M) (r : Running) (g : registers.Running) (u
   pub stored : Stored (m.store ++ (object ∷ [])) S
   pub uses : u ≡ used (m.store ++ (object ∷ []))
 
-abbrev pub Mades : Program → Sizes → ℕ → ℕ → M → Running → Made → List ℕ → List ℕ → List ℕ → List ℕ → Type 0
-Mades P z op x m r (On g u) live store live' store' = MadeOn (outcome P z (opcode_action P m r op x) m) m r g u (cells live') (cells store')
-Mades P z op x m r (Refused n) live store live' store' = (outcome P z (opcode_action P m r op x) m ≡ stops n) × (live' ≡ live) × (store' ≡ store)
+abbrev pub Mades : Program → Sizes → ℕ → ℕ → M → Running → Result Made Refusal → List ℕ → List ℕ → List ℕ → List ℕ → Type 0
+Mades P z op x m r (Ok y) live store live' store' = MadeOn (outcome P z (opcode_action P m r op x) m) m r y.g y.used (cells live') (cells store')
+Mades P z op x m r (Err n) live store live' store' = (outcome P z (opcode_action P m r op x) m ≡ stops (number n)) × (live' ≡ live) × (store' ≡ store)
 
 -- how many cells of the store are used then
-abbrev pub used_by : ℕ → Made → ℕ
-used_by u (On g w) = w
-used_by u (Refused n) = u
+abbrev pub used_by : ℕ → Result Made Refusal → ℕ
+used_by u (Ok y) = y.used
+used_by u (Err n) = u
 
-pub record Makes (P : Program) (op x : ℕ) (g : registers.Running) (u : ℕ) (n : Made) (live store live' store' : List ℕ) : Type 0 where
+pub record Makes (P : Program) (op x : ℕ) (g : registers.Running) (u : ℕ) (n : Result Made Refusal) (live store live' store' : List ℕ) : Type 0 where
   pub next : (z : Sizes) (m : M) (r : Running) → Inside P z m r g (cells live) (cells store) → u ≡ used m.store → Mades P z op x m r n live store live' store'
   pub same_live : Same live live'
   pub appends : Appends u (used_by u n) store store'
@@ -65,7 +66,7 @@ pub record Closable (P : Program) (g : registers.Running) (handle u x code : ℕ
   pub uses : u ≡ used machine.store
   pub few : room store < 4294967296
 
-pub record MakesClosure (P : Program) (g : registers.Running) (handle u x code : ℕ) (n : Made) (live store live' store' : List ℕ) : Type 0 where
+pub record MakesClosure (P : Program) (g : registers.Running) (handle u x code : ℕ) (n : Result Made Refusal) (live store live' store' : List ℕ) : Type 0 where
   pub next : (z : Sizes) (m : M) (r : Running) → Inside P z m r g (cells live) (cells store) → Accepted P.image P.codes → u ≡ used m.store → handle ≡ r.handle → Named P r x code → Mades P z 6 x m r n live store live' store'
   pub same_live : Same live live'
   pub appends : Appends u (used_by u n) store store'
@@ -105,7 +106,7 @@ abbrev pub Sets : Program → Sizes → ℕ → M → Running → Next → List 
 Sets P z x m r (Goes g) live state state' = SetOn P (outcome P z (opcode_action P m r 8 x) m) m r g (cells live) (cells state')
 Sets P z x m r (Jumps g) live state state' = ⊥
 Sets P z x m r (Throws g e) live state state' = ⊥
-Sets P z x m r (Stops n) live state state' = (outcome P z (opcode_action P m r 8 x) m ≡ stops n) × (state' ≡ state)
+Sets P z x m r (Stops n) live state state' = (outcome P z (opcode_action P m r 8 x) m ≡ stops (number n)) × (state' ≡ state)
 
 pub record SetsGlobal (P : Program) (g : registers.Running) (x name : ℕ) (n : Next) (live state state' : List ℕ) : Type 0 where
   pub next : (z : Sizes) (m : M) (r : Running) (S : List Cell) → Inside P z m r g (cells live) S → Block m (cells state) → name ≡ get_or r.code.globals x 0 → Sets P z x m r n live state state'

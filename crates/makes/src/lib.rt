@@ -5,49 +5,42 @@ ghost use Rattle.std.specs.Prelude.{◌≡◌, ◌-◌, ◌≤◌, ◌<◌, leng
 ghost use Rattle.cells.specs.Cells.{room};
 ghost use Rattle.machine.specs.Values.{Program};
 ghost use Rattle.moves.specs.Runs.{end_of};
-ghost use Rattle.scan.specs.Tables.{program_in};
+ghost use Rattle.scan.specs.Tables.{program_of};
 ghost use Rattle.makes.specs.Made.{Makes, Capturable, Closable, MakesClosure, Captured, SetsGlobal};
 
 use cells::Cell;
 use moves::Running;
 use plan::Next;
+use refusals::Refusal;
 
-// How an opcode ends that makes an object: it goes on, with so many cells of the store used; or it is refused.
+// How an opcode ends that makes an object and is not refused: it goes on, with so many cells of the store used.
 #[derive(Clone, Copy)]
-pub enum Made {
-    On(Running, usize),
-    Refused(u32),
-}
-
-// The frame with so many values less on its stack.
-fn dropped(g: Running, n: usize) -> Running
-    requires { n ≤ g.stack }
-    ensures { result ≡ record { base = g.base; locals = g.locals; handlers = g.handlers; stack = g.stack - n; place = g.place } }
-{
-    Running {
-        base: g.base,
-        locals: g.locals,
-        handlers: g.handlers,
-        stack: g.stack - n,
-        place: g.place,
-    }
+pub struct Made {
+    pub g: Running,
+    pub used: usize,
 }
 
 // 10 `BuildList` of the x top values: 14 only where none is popped, then 15.
-pub fn build_list(live: &mut [u8], store: &mut [u8], g: Running, used: usize, x: u32) -> Made
+pub fn build_list(
+    live: &mut [u8],
+    store: &mut [u8],
+    g: Running,
+    used: usize,
+    x: u32,
+) -> Result<Made, Refusal>
     requires { (end_of g ≤ room live.old) × (used ≤ room store.old) × (room store.old < 4294967296) }
     ensures { (P : Program) → Makes P 10 x g used result live.old store.old live.new store.new }
 {
     let n = x as usize;
     if n > g.stack {
-        return Made::Refused(12);
+        return Err(Refusal::FewValues);
     }
-    let h = dropped(g, n);
+    let h = g.dropped(n);
     if moves::end(h) >= cells::room(live) {
-        return Made::Refused(14);
+        return Err(Refusal::LiveFull);
     }
     if cells::room(store) - used < 1 + n {
-        return Made::Refused(15);
+        return Err(Refusal::StoreFull);
     }
     objects::new_object(store, used, 129, 0, live, moves::end(h), n);
     let list = Cell {
@@ -55,13 +48,16 @@ pub fn build_list(live: &mut [u8], store: &mut [u8], g: Running, used: usize, x:
         number: used as u32,
         payload: 0,
     };
-    Made::On(moves::push(live, h, list), used + 1 + n)
+    let g = moves::push(live, h, list);
+    Ok(Made {
+        g,
+        used: used + 1 + n,
+    })
 }
 
 // What a new closure captures: a local of the running frame, or an upvalue of its closure.
 fn captured(
-    image: &[u8],
-    rows: &[u32],
+    program: &lookups::Program,
     live: &[u8],
     store: &[u8],
     g: Running,
@@ -69,10 +65,10 @@ fn captured(
     code: usize,
     i: usize,
 ) -> Cell
-    requires { Capturable image.now rows.now g handle code i live.now store.now }
-    ensures { Captured image.now rows.now g handle code i live.now store.now result }
+    requires { Capturable program.now.image.now program.now.rows.now g handle code i live.now store.now }
+    ensures { Captured program.now.image.now program.now.rows.now g handle code i live.now store.now result }
 {
-    let c = lookups::capture(image, rows, code, i);
+    let c = program.capture(code, i);
     if c.from == 0 {
         return moves::local(live, g, c.index as usize);
     }
@@ -81,11 +77,7 @@ fn captured(
 
 // A closure of an inner code, at the end of the store; it is pushed.
 pub fn make_closure(
-    image: &[u8],
-    rows: &[u32],
-    constants: &[u32],
-    inner: &[u32],
-    codes: usize,
+    program: &lookups::Program,
     live: &mut [u8],
     store: &mut [u8],
     g: Running,
@@ -93,30 +85,32 @@ pub fn make_closure(
     used: usize,
     x: u32,
     code: usize,
-) -> Made
-    requires { Closable (program_in image.now rows.now constants.now inner.now codes) g handle used x code live.old store.old }
-    ensures { MakesClosure (program_in image.now rows.now constants.now inner.now codes) g handle used x code result live.old store.old live.new store.new }
+) -> Result<Made, Refusal>
+    requires { Closable (program_of program.now) g handle used x code live.old store.old }
+    ensures { MakesClosure (program_of program.now) g handle used x code result live.old store.old live.new store.new }
 {
-    let n = program::field(rows, code, 5);
+    let n = program.capture_count(code);
     if moves::end(g) >= cells::room(live) {
-        return Made::Refused(14);
+        return Err(Refusal::LiveFull);
     }
     if cells::room(store) - used < 1 + n {
-        return Made::Refused(15);
+        return Err(Refusal::StoreFull);
     }
     objects::new_closure(store, used, code as u32, n);
-    let mut i = 0;
-    while i < n {
-        let v = captured(image, rows, live, store, g, handle, code, i);
+    for i in 0..n {
+        let v = captured(program, live, store, g, handle, code, i);
         cells::put(store, used + 1 + i, v);
-        i += 1;
     }
     let closure = Cell {
         tag: 7,
         number: used as u32,
         payload: 0,
     };
-    Made::On(moves::push(live, g, closure), used + 1 + n)
+    let g = moves::push(live, g, closure);
+    Ok(Made {
+        g,
+        used: used + 1 + n,
+    })
 }
 
 // 8 `StoreGlobal` of name x of the code.
@@ -125,9 +119,9 @@ pub fn store_global(state: &mut [u8], live: &[u8], g: Running, x: u32, name: u16
     ensures { (P : Program) → SetsGlobal P g x name result live.now state.old state.new }
 {
     if g.stack == 0 {
-        return Next::Stops(12);
+        return Next::Stops(Refusal::FewValues);
     }
     let v = moves::top(live, g, 0);
     states::set_global(state, name as usize, v);
-    Next::Goes(dropped(g, 1))
+    Next::Goes(g.dropped(1))
 }

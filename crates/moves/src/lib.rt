@@ -2,7 +2,7 @@
 // A frame that runs has its counts and its place in registers; reads and moves of it are said of any frame that its registers hold (`Top`).
 #![tactic(auto)]
 
-ghost use Rattle.std.specs.Prelude.{◌≡◌, List, ◌+◌, ◌≤◌, ◌<◌, get_or};
+ghost use Rattle.std.specs.Prelude.{◌≡◌, List, ◌+◌, ◌-◌, ◌≤◌, ◌<◌, get_or};
 ghost use Rattle.cells.specs.Cells.{null, room, cells, Sound};
 ghost use Rattle.memory.specs.Layout.{Written};
 ghost use Rattle.moves.specs.Runs.{Top, Turns, Settles, stack_at, end_of, with_counts, opened, pushed, set_top, set_local, no_handler, add_handler, set_handler, clear_handlers};
@@ -20,16 +20,27 @@ pub struct Running {
     pub place: usize,
 }
 
+impl Running {
+    // The same frame with so many values less on its stack.
+    pub fn dropped(self, n: usize) -> Running
+        requires { n ≤ self.stack }
+        ensures { result ≡ record { base = self.base; locals = self.locals; handlers = self.handlers; stack = self.stack - n; place = self.place } }
+    {
+        Running {
+            stack: self.stack - n,
+            ..self
+        }
+    }
+}
+
 // The same frame with other counts of handlers and stack values.
 fn with_counts(g: Running, handlers: usize, stack: usize) -> Running
     ensures { result ≡ with_counts handlers stack g }
 {
     Running {
-        base: g.base,
-        locals: g.locals,
         handlers,
         stack,
-        place: g.place,
+        ..g
     }
 }
 

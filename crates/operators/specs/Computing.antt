@@ -1,5 +1,5 @@
 -- What an operator gives: one law for each return of the functions that compute it.
-use Rattle.std.specs.Prelude.{◌≡◌, List, Bool, true, false, not, ℕ, ◌-◌, eqb}
+use Rattle.std.specs.Prelude.{◌≡◌, List, Option, Some, None, Bool, true, false, not, ℕ, ◌-◌, eqb, Result, Ok, Err}
 use Rattle.std.proofs.Math.Path.{sym, ap}
 use Rattle.std.proofs.Common.{◌∙◌}
 use borrow.Author.Tests.{eq-eqb, ne_eqb}
@@ -10,85 +10,83 @@ use Rattle.image.specs.Program.{part}
 use Rattle.image.specs.Effects.{same}
 use Rattle.image.specs.declared.Constant.{Constant}
 use Rattle.ints.specs.Ints.{half, neg, add, sub, mul, div, rem, lt, le, gt, ge}
-use Rattle.ints.specs.declared.Division.{Division}
-use Rattle.ints.specs.declared.Division.TheVariants.{Of, ZeroDivisor}
 use Rattle.machine.specs.Values.{Program, bool, int, type_of, constant_of, bytes_at, equal_effects, equal, meta_un_operator, un_operator, meta_bin_operator, divides, unary, of_ints, binary}
 use Rattle.memory.specs.Layout.{error_shown}
 use Rattle.scan.specs.Tables.{program_in}
 use Rattle.plan.specs.Plans.{error_of, computed_of}
 use Rattle.plan.specs.declared.Error.{Error}
-use Rattle.plan.specs.declared.Computed.{Computed}
-use Rattle.plan.specs.declared.Computed.TheVariants.{Computes, Fails}
+use Rattle.plan.specs.declared.ErrorKind.TheVariants.{ZeroDivisor}
+use Rattle.plan.specs.Kinds.{kind_of}
 
 -- ---- `divided`
-module _ {d : Division} where
-  pub divided_of : {n : ℕ} {r : Cell} → d ≡ Of n → r ≡ int n → Computes r ≡ computed_of (divides d)
+module _ {d : Option ℕ} where
+  pub divided_of : {n : ℕ} {r : Cell} → d ≡ Some n → r ≡ int n → Ok r ≡ computed_of (divides d)
   unfolding computed_of divides
   divided_of e q = rw (e, q)
 
-  pub divided_zero : d ≡ ZeroDivisor → Fails (record { kind = 8; value = null; second = 0 }) ≡ computed_of (divides d)
-  unfolding computed_of divides error_shown
+  pub divided_zero : d ≡ None → Err (record { kind = ZeroDivisor; value = null; second = 0 }) ≡ computed_of (divides d)
+  unfolding computed_of divides error_shown kind_of
   divided_zero e = rw e
 
 -- ---- `unary_of`
 module _ (op : ℕ) (v : Cell) where
-  pub neg_int : {n : ℕ} {r : Cell} → op ≡ 17 → v.tag ≡ 2 → n ≡ neg half v.payload → r ≡ int n → Computes r ≡ computed_of (unary op v)
+  pub neg_int : {n : ℕ} {r : Cell} → op ≡ 17 → v.tag ≡ 2 → n ≡ neg half v.payload → r ≡ int n → Ok r ≡ computed_of (unary op v)
   unfolding computed_of unary
-  neg_int e t q w = simp (e, t) (ap Computes (w ∙ ap int q))
+  neg_int e t q w = simp (e, t) (ap Ok (w ∙ ap int q))
 
-  pub neg_other : {t : ℕ} {x : Error} → op ≡ 17 → (v.tag ≡ 2 → ⊥) → t ≡ type_of v → x ≡ error_of (meta_un_operator 6 t) → Fails x ≡ computed_of (unary op v)
+  pub neg_other : {t : ℕ} {x : Error} → op ≡ 17 → (v.tag ≡ 2 → ⊥) → t ≡ type_of v → x ≡ error_of (meta_un_operator 6 t) → Err x ≡ computed_of (unary op v)
   unfolding computed_of unary
-  neg_other e n q w = simp (e, ne_eqb _ _ n) (ap Fails (w ∙ ap (λ (k : ℕ). error_of (meta_un_operator 6 k)) q))
+  neg_other e n q w = simp (e, ne_eqb _ _ n) (ap Err (w ∙ ap (λ (k : ℕ). error_of (meta_un_operator 6 k)) q))
 
-  pub not_bool : {r : Cell} → (op ≡ 17 → ⊥) → v.tag ≡ 1 → r ≡ bool (eqb v.number 0) → Computes r ≡ computed_of (unary op v)
+  pub not_bool : {r : Cell} → (op ≡ 17 → ⊥) → v.tag ≡ 1 → r ≡ bool (eqb v.number 0) → Ok r ≡ computed_of (unary op v)
   unfolding computed_of unary
-  not_bool e t w = simp (ne_eqb _ _ e, t) (ap Computes w)
+  not_bool e t w = simp (ne_eqb _ _ e, t) (ap Ok w)
 
-  pub not_other : {t : ℕ} {x : Error} → (op ≡ 17 → ⊥) → (v.tag ≡ 1 → ⊥) → t ≡ type_of v → x ≡ error_of (un_operator op 0 t) → Fails x ≡ computed_of (unary op v)
+  pub not_other : {t : ℕ} {x : Error} → (op ≡ 17 → ⊥) → (v.tag ≡ 1 → ⊥) → t ≡ type_of v → x ≡ error_of (un_operator op 0 t) → Err x ≡ computed_of (unary op v)
   unfolding computed_of unary
-  not_other e n q w = simp (ne_eqb _ _ e, ne_eqb _ _ n) (ap Fails (w ∙ ap (λ (k : ℕ). error_of (un_operator op 0 k)) q))
+  not_other e n q w = simp (ne_eqb _ _ e, ne_eqb _ _ n) (ap Err (w ∙ ap (λ (k : ℕ). error_of (un_operator op 0 k)) q))
 
 -- ---- `of_ints`
 module _ (op a b : ℕ) where
-  pub ints_add : {n : ℕ} {r : Cell} → op ≡ 19 → n ≡ add half a b → r ≡ int n → Computes r ≡ computed_of (of_ints op a b)
+  pub ints_add : {n : ℕ} {r : Cell} → op ≡ 19 → n ≡ add half a b → r ≡ int n → Ok r ≡ computed_of (of_ints op a b)
   unfolding computed_of of_ints
-  ints_add e q w = simp e (ap Computes (w ∙ ap int q))
+  ints_add e q w = simp e (ap Ok (w ∙ ap int q))
 
-  pub ints_sub : {n : ℕ} {r : Cell} → op ≡ 20 → n ≡ sub half a b → r ≡ int n → Computes r ≡ computed_of (of_ints op a b)
+  pub ints_sub : {n : ℕ} {r : Cell} → op ≡ 20 → n ≡ sub half a b → r ≡ int n → Ok r ≡ computed_of (of_ints op a b)
   unfolding computed_of of_ints
-  ints_sub e q w = simp e (ap Computes (w ∙ ap int q))
+  ints_sub e q w = simp e (ap Ok (w ∙ ap int q))
 
-  pub ints_mul : {n : ℕ} {r : Cell} → op ≡ 21 → n ≡ mul half a b → r ≡ int n → Computes r ≡ computed_of (of_ints op a b)
+  pub ints_mul : {n : ℕ} {r : Cell} → op ≡ 21 → n ≡ mul half a b → r ≡ int n → Ok r ≡ computed_of (of_ints op a b)
   unfolding computed_of of_ints
-  ints_mul e q w = simp e (ap Computes (w ∙ ap int q))
+  ints_mul e q w = simp e (ap Ok (w ∙ ap int q))
 
-  module _ {d : Division} {r : Computed} (w : r ≡ computed_of (divides d)) where
+  module _ {d : Option ℕ} {r : Result Cell Error} (w : r ≡ computed_of (divides d)) where
     pub ints_div : op ≡ 22 → d ≡ div half a b → r ≡ computed_of (of_ints op a b)
     unfolding of_ints
-    ints_div e q = simp e (w ∙ ap (λ (x : Division). computed_of (divides x)) q)
+    ints_div e q = simp e (w ∙ ap (λ (x : Option ℕ). computed_of (divides x)) q)
 
     pub ints_rem : op ≡ 23 → d ≡ rem half a b → r ≡ computed_of (of_ints op a b)
     unfolding of_ints
-    ints_rem e q = simp e (w ∙ ap (λ (x : Division). computed_of (divides x)) q)
+    ints_rem e q = simp e (w ∙ ap (λ (x : Option ℕ). computed_of (divides x)) q)
 
   module _ {t : Bool} {r : Cell} (w : r ≡ bool t) where
-    pub ints_gt : op ≡ 26 → t ≡ gt half a b → Computes r ≡ computed_of (of_ints op a b)
+    pub ints_gt : op ≡ 26 → t ≡ gt half a b → Ok r ≡ computed_of (of_ints op a b)
     unfolding computed_of of_ints
-    ints_gt e q = simp e (ap Computes (w ∙ ap bool q))
+    ints_gt e q = simp e (ap Ok (w ∙ ap bool q))
 
-    pub ints_ge : op ≡ 27 → t ≡ ge half a b → Computes r ≡ computed_of (of_ints op a b)
+    pub ints_ge : op ≡ 27 → t ≡ ge half a b → Ok r ≡ computed_of (of_ints op a b)
     unfolding computed_of of_ints
-    ints_ge e q = simp e (ap Computes (w ∙ ap bool q))
+    ints_ge e q = simp e (ap Ok (w ∙ ap bool q))
 
-    pub ints_lt : op ≡ 28 → t ≡ lt half a b → Computes r ≡ computed_of (of_ints op a b)
+    pub ints_lt : op ≡ 28 → t ≡ lt half a b → Ok r ≡ computed_of (of_ints op a b)
     unfolding computed_of of_ints
-    ints_lt e q = simp e (ap Computes (w ∙ ap bool q))
+    ints_lt e q = simp e (ap Ok (w ∙ ap bool q))
 
     pub ints_le : (op ≡ 19 → ⊥) → (op ≡ 20 → ⊥) → (op ≡ 21 → ⊥) → (op ≡ 22 → ⊥) → (op ≡ 23 → ⊥) → (op ≡ 26 → ⊥) → (op ≡ 27 → ⊥) → (op ≡ 28 → ⊥)
-        → t ≡ le half a b → Computes r ≡ computed_of (of_ints op a b)
+        → t ≡ le half a b → Ok r ≡ computed_of (of_ints op a b)
     unfolding computed_of of_ints
     ints_le n19 n20 n21 n22 n23 n26 n27 n28 q =
-        simp (ne_eqb _ _ n19, ne_eqb _ _ n20, ne_eqb _ _ n21, ne_eqb _ _ n22, ne_eqb _ _ n23, ne_eqb _ _ n26, ne_eqb _ _ n27, ne_eqb _ _ n28) (ap Computes (w ∙ ap bool q))
+        simp (ne_eqb _ _ n19, ne_eqb _ _ n20, ne_eqb _ _ n21, ne_eqb _ _ n22, ne_eqb _ _ n23, ne_eqb _ _ n26, ne_eqb _ _ n27, ne_eqb _ _ n28) (ap Ok (w ∙ ap bool q))
 
 -- ---- `same_text`
 module _ (image rows constants inner : List ℕ) (codes : ℕ) (a b : Cell) where
@@ -146,27 +144,27 @@ module _ (P : Program) (a b : Cell) where
 -- ---- `binary_of`
 module _ (P : Program) (op : ℕ) (a b : Cell) where
   module _ {t : Bool} {r : Cell} (q : t ≡ equal P a b) where
-    pub binary_eq : op ≡ 24 → r ≡ bool t → Computes r ≡ computed_of (binary P op a b)
+    pub binary_eq : op ≡ 24 → r ≡ bool t → Ok r ≡ computed_of (binary P op a b)
     unfolding computed_of binary
-    binary_eq e w = simp e (ap Computes (w ∙ ap bool q))
+    binary_eq e w = simp e (ap Ok (w ∙ ap bool q))
 
-    pub binary_ne : op ≡ 25 → r ≡ bool (not t) → Computes r ≡ computed_of (binary P op a b)
+    pub binary_ne : op ≡ 25 → r ≡ bool (not t) → Ok r ≡ computed_of (binary P op a b)
     unfolding computed_of binary
-    binary_ne e w = simp e (ap Computes (w ∙ ap (λ (x : Bool). bool (not x)) q))
+    binary_ne e w = simp e (ap Ok (w ∙ ap (λ (x : Bool). bool (not x)) q))
 
   module _ (n24 : op ≡ 24 → ⊥) (n25 : op ≡ 25 → ⊥) where
-    pub binary_ints : {r : Computed} → a.tag ≡ 2 → eqb b.tag 2 ≡ true → r ≡ computed_of (of_ints op a.payload b.payload) → r ≡ computed_of (binary P op a b)
+    pub binary_ints : {r : Result Cell Error} → a.tag ≡ 2 → eqb b.tag 2 ≡ true → r ≡ computed_of (of_ints op a.payload b.payload) → r ≡ computed_of (binary P op a b)
     unfolding binary both
     binary_ints e f w = simp (ne_eqb _ _ n24, ne_eqb _ _ n25, e, f) w
 
     module _ {t u : ℕ} {x : Error} (p : t ≡ type_of a) (q : u ≡ type_of b) (w : x ≡ error_of (meta_bin_operator (op - 12) t u)) where
-      other_is : Fails x ≡ Fails (error_of (meta_bin_operator (op - 12) (type_of a) (type_of b)))
-      other_is = ap Fails (w ∙ (λ j. error_of (meta_bin_operator (op - 12) (p j) (q j))))
+      other_is : ◌≡◌ {A = Result Cell Error} (Err x) (Err (error_of (meta_bin_operator (op - 12) (type_of a) (type_of b))))
+      other_is = ap Err (w ∙ (λ j. error_of (meta_bin_operator (op - 12) (p j) (q j))))
 
-      pub binary_first : (a.tag ≡ 2 → ⊥) → Fails x ≡ computed_of (binary P op a b)
+      pub binary_first : (a.tag ≡ 2 → ⊥) → Err x ≡ computed_of (binary P op a b)
       unfolding computed_of binary both
       binary_first n = simp (ne_eqb _ _ n24, ne_eqb _ _ n25, ne_eqb _ _ n) other_is
 
-      pub binary_second : a.tag ≡ 2 → eqb b.tag 2 ≡ false → Fails x ≡ computed_of (binary P op a b)
+      pub binary_second : a.tag ≡ 2 → eqb b.tag 2 ≡ false → Err x ≡ computed_of (binary P op a b)
       unfolding computed_of binary both
       binary_second e n = simp (ne_eqb _ _ n24, ne_eqb _ _ n25, eq-eqb _ _ e, n) other_is

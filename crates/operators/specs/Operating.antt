@@ -1,7 +1,7 @@
 -- What an operator leaves of its frame: one law for each return of `computed`, `unary`, `binary` and `type_check`.
-use Rattle.std.specs.Prelude.{◌≡◌, ℕ, ◌-◌, ◌<◌, ◌≤◌, length, get_or, leb}
+use Rattle.std.specs.Prelude.{◌≡◌, ℕ, ◌-◌, ◌<◌, ◌≤◌, length, get_or, leb, Result, Ok, Err}
 use Rattle.std.proofs.Math.Path.{refl, ap}
-use Rattle.std.proofs.Common.{sym, ◌∙◌}
+use Rattle.std.proofs.Common.{sym, subst, ◌∙◌}
 use mathlib.Core.List.{List, [], ◌∷◌}
 use Rattle.std.proofs.Math.Bool.{false}
 use native.Mathlib.Omega.{arith}
@@ -26,18 +26,17 @@ use Rattle.plan.specs.Rest.{Same}
 use Rattle.plan.specs.Inside.{Inside, left, Does}
 use Rattle.plan.proofs.InsideLaws.{goes_fits, runs_cost, runs_fits, handlers_few}
 use Rattle.plan.specs.declared.Error.{Error}
-use Rattle.plan.specs.declared.Computed.{Computed}
-use Rattle.plan.specs.declared.Computed.TheVariants.{Computes, Fails}
 use Rattle.plan.specs.declared.Next.{Next}
 use Rattle.plan.specs.declared.Next.TheVariants.{Goes, Throws, Stops}
 use Rattle.operators.specs.Operated.{Operates}
+use Rattle.refusals.specs.declared.Refusal.TheVariants.{FewValues}
 
 still : (s : List ℕ) → Same s s
 still s = record { rest = refl; len = refl }
 
 -- ---- `computed`
 -- a cell that is given, and an error
-given : (r : Running) (st : List Cell) {c : Cell} (y : v.Computed) → Computes c ≡ computed_of y → computed r st y ≡ goes (stacked r (c ∷ st))
+given : (r : Running) (st : List Cell) {c : Cell} (y : v.Computed) → Ok c ≡ computed_of y → computed r st y ≡ goes (stacked r (c ∷ st))
 unfolding computed_of computed
 given r st {c} (v.computes d) e = let f : d ≡ c = cc in rw f
 given r st (v.fails x) e = let z : ◌≡◌ {A = ℕ} 0 1 = cc in absurd (omega arith)
@@ -47,15 +46,15 @@ record Failing (r : Running) (st : List Cell) (x : Error) (y : v.Computed) : Typ
   is : x ≡ error_of error
   throws : computed r st y ≡ throws error (stacked r st)
 
-failing : (r : Running) (st : List Cell) {x : Error} (y : v.Computed) → Fails x ≡ computed_of y → Failing r st x y
+failing : (r : Running) (st : List Cell) {x : Error} (y : v.Computed) → Err x ≡ computed_of y → Failing r st x y
 unfolding computed_of computed
 failing r st {x} (v.fails d) e = record { error = d; is = cc; throws = refl }
 failing r st (v.computes x) e = let z : ◌≡◌ {A = ℕ} 0 1 = cc in absurd (omega arith)
 
 module _ (g : registers.Running) (n : ℕ) {old : List ℕ} (few : n ≤ g.stack) where
-  pub computed_goes : {c : Computed} {a : Cell} {r : registers.Running} {new : List ℕ} → c ≡ Computes a → Turns (pushed a) (with_counts g.handlers (g.stack - n) g) old r new → (P : Program) → Operates P g n c (Goes r) old new
+  goes_by : {c : Result Cell Error} {a : Cell} {r : registers.Running} {new : List ℕ} → c ≡ Ok a → Turns (pushed a) (with_counts g.handlers (g.stack - n) g) old r new → (P : Program) → Operates P g n c (Goes r) old new
   unfolding pace_of
-  computed_goes {a = a} {r} {new} e t P = record {
+  goes_by {a = a} {r} {new} e t P = record {
     does = λ op x y k. record {
       next = λ z m f S u i.
           let st : List Cell = a ∷ drop n f.stack in
@@ -75,8 +74,8 @@ module _ (g : registers.Running) (n : ℕ) {old : List ℕ} (few : n ≤ g.stack
     };
   }
 
-  pub computed_throws : {c : Computed} {x : Error} → c ≡ Fails x → (P : Program) → Operates P g n c (Throws (with_counts g.handlers (g.stack - n) g) x) old old
-  computed_throws e P = record {
+  throws_by : {c : Result Cell Error} {x : Error} → c ≡ Err x → (P : Program) → Operates P g n c (Throws (with_counts g.handlers (g.stack - n) g) x) old old
+  throws_by e P = record {
     does = λ op x y k. record {
       next = λ z m f S u i.
           let b = failing f (drop n f.stack) y (sym e ∙ k) in (
@@ -95,6 +94,14 @@ module _ (g : registers.Running) (n : ℕ) {old : List ℕ} (few : n ≤ g.stack
       same = still old;
     };
   }
+
+  -- over the frame without its operands
+  module _ {h : registers.Running} (q : h ≡ with_counts g.handlers (g.stack - n) g) where
+    pub computed_goes : {c : Result Cell Error} {a : Cell} {r : registers.Running} {new : List ℕ} → c ≡ Ok a → Turns (pushed a) h old r new → (P : Program) → Operates P g n c (Goes r) old new
+    computed_goes {a = a} {r} {new} e t P = goes_by e (subst (λ (k : registers.Running). Turns (pushed a) k old r new) q t) P
+
+    pub computed_throws : {c : Result Cell Error} {x : Error} → c ≡ Err x → (P : Program) → Operates P g n c (Throws h x) old old
+    computed_throws {c} {x} e P = subst (λ (k : registers.Running). Operates P g n c (Throws k x) old old) (sym q) (throws_by e P)
 
 -- ---- The opcodes
 module _ (P : Program) (m : M) (r : Running) (op x : ℕ) where
@@ -147,21 +154,21 @@ two_some [] f l = absurd (omega arith)
 two_some (a ∷ []) f l = absurd (omega arith)
 two_some (a ∷ b ∷ st) f l = refl
 
-refused : {P : Program} {op x : ℕ} {g : registers.Running} {live : List ℕ} → ((m : M) (r : Running) → g.stack ≡ length r.stack → opcode_action P m r op x ≡ refuses 12) → Does P op x g (Stops 12) live live
+refused : {P : Program} {op x : ℕ} {g : registers.Running} {live : List ℕ} → ((m : M) (r : Running) → g.stack ≡ length r.stack → opcode_action P m r op x ≡ refuses 12) → Does P op x g (Stops FewValues) live live
 unfolding outcome
 refused {P} {live = live} h = record { next = λ z m r S q i. (ap (λ (t : Taken). outcome P z t m) (h m r i.runs.counts.stack), refl); same = still live }
 
 -- an operator does what its opcode does
-operated : {P : Program} {g : registers.Running} {n : ℕ} {c : Computed} {w : Next} {old new : List ℕ} (op x : ℕ) (y : v.Computed) → Operates P g n c w old new → c ≡ computed_of y
+operated : {P : Program} {g : registers.Running} {n : ℕ} {c : Result Cell Error} {w : Next} {old new : List ℕ} (op x : ℕ) (y : v.Computed) → Operates P g n c w old new → c ≡ computed_of y
     → ((z : Sizes) (m : M) (r : Running) (S : List Cell) → Inside P z m r g (cells old) S → opcode_action P m r op x ≡ takes (computed r (drop n r.stack) y)) → Does P op x g w old new
 operated op x y o e h = let d = o.does op x y e in record { next = λ z m r S q i. d.next z m r S (h z m r S i) i; same = d.same }
 
 -- ---- `unary`
 module _ (g : registers.Running) (op x : ℕ) (old : List ℕ) (low : 17 ≤ op) (high : op ≤ 18) where
-  pub unary_stops : g.stack ≡ 0 → (P : Program) → Does P op x g (Stops 12) old old
+  pub unary_stops : g.stack ≡ 0 → (P : Program) → Does P op x g (Stops FewValues) old old
   unary_stops e P = refused (λ m r k. unary_action P m r op x low high ∙ top_none r.stack _ (omega arith))
 
-  pub unary_does : {a : Cell} {c : Computed} {w : Next} {new : List ℕ} → (g.stack ≡ 0 → ⊥) → ((f : Written) (pre : List Cell) → Top f pre g (cells old) → a ≡ get_or f.stack 0 null) × Sound a
+  pub unary_does : {a : Cell} {c : Result Cell Error} {w : Next} {new : List ℕ} → (g.stack ≡ 0 → ⊥) → ((f : Written) (pre : List Cell) → Top f pre g (cells old) → a ≡ get_or f.stack 0 null) × Sound a
       → c ≡ computed_of (unary op a) → ((P : Program) → Operates P g 1 c w old new) → (P : Program) → Does P op x g w old new
   unary_does {a} e s q o P =
       operated op x (unary op a) (o P) q
@@ -169,10 +176,10 @@ module _ (g : registers.Running) (op x : ℕ) (old : List ℕ) (low : 17 ≤ op)
 
 -- ---- `binary`
 module _ (P : Program) (g : registers.Running) (op x : ℕ) (old : List ℕ) (low : 19 ≤ op) (high : op ≤ 29) where
-  pub binary_stops : g.stack < 2 → Does P op x g (Stops 12) old old
+  pub binary_stops : g.stack < 2 → Does P op x g (Stops FewValues) old old
   binary_stops l = refused (λ m r k. binary_action P m r op x low high ∙ two_none r.stack _ (omega arith))
 
-  pub binary_does : {a b : Cell} {c : Computed} {w : Next} {new : List ℕ} → 2 ≤ g.stack → ((f : Written) (pre : List Cell) → Top f pre g (cells old) → b ≡ get_or f.stack 0 null) × Sound b
+  pub binary_does : {a b : Cell} {c : Result Cell Error} {w : Next} {new : List ℕ} → 2 ≤ g.stack → ((f : Written) (pre : List Cell) → Top f pre g (cells old) → b ≡ get_or f.stack 0 null) × Sound b
       → ((f : Written) (pre : List Cell) → Top f pre g (cells old) → a ≡ get_or f.stack 1 null) × Sound a → c ≡ computed_of (binary P op a b) → ((P : Program) → Operates P g 2 c w old new)
       → Does P op x g w old new
   binary_does {a} {b} l s t q o =
@@ -182,22 +189,22 @@ module _ (P : Program) (g : registers.Running) (op x : ℕ) (old : List ℕ) (lo
 
 -- ---- `arithmetic`, whatever the program
 module _ (g : registers.Running) (op x : ℕ) (old : List ℕ) (low : 19 ≤ op) (high : op ≤ 29) where
-  pub arithmetic_stops : g.stack < 2 → (P : Program) → Does P op x g (Stops 12) old old
+  pub arithmetic_stops : g.stack < 2 → (P : Program) → Does P op x g (Stops FewValues) old old
   arithmetic_stops l P = binary_stops P g op x old low high l
 
-  pub arithmetic_does : {a b : Cell} {c : Computed} {w : Next} {new : List ℕ} → 2 ≤ g.stack → ((f : Written) (pre : List Cell) → Top f pre g (cells old) → b ≡ get_or f.stack 0 null) × Sound b
+  pub arithmetic_does : {a b : Cell} {c : Result Cell Error} {w : Next} {new : List ℕ} → 2 ≤ g.stack → ((f : Written) (pre : List Cell) → Top f pre g (cells old) → b ≡ get_or f.stack 0 null) × Sound b
       → ((f : Written) (pre : List Cell) → Top f pre g (cells old) → a ≡ get_or f.stack 1 null) × Sound a → ((P : Program) → c ≡ computed_of (binary P op a b)) → ((P : Program) → Operates P g 2 c w old new)
       → (P : Program) → Does P op x g w old new
   arithmetic_does l s t q o P = binary_does P g op x old low high l s t (q P) o
 
 -- ---- `type_check`
 module _ (g : registers.Running) (x : ℕ) (old : List ℕ) where
-  pub check_stops : g.stack ≡ 0 → (P : Program) → Does P 30 x g (Stops 12) old old
+  pub check_stops : g.stack ≡ 0 → (P : Program) → Does P 30 x g (Stops FewValues) old old
   unfolding opcode_action both
   check_stops e P = refused (λ m r k. top_none r.stack _ (omega arith))
 
   pub check_does : {a b : Cell} {t : ℕ} {w : Next} {new : List ℕ} → (g.stack ≡ 0 → ⊥) → ((f : Written) (pre : List Cell) → Top f pre g (cells old) → a ≡ get_or f.stack 0 null) × Sound a
-      → t ≡ type_of a → b ≡ bool (eqb t x) → ((P : Program) → Operates P g 1 (Computes b) w old new) → (P : Program) → Does P 30 x g w old new
+      → t ≡ type_of a → b ≡ bool (eqb t x) → ((P : Program) → Operates P g 1 (Ok b) w old new) → (P : Program) → Does P 30 x g w old new
   unfolding opcode_action both computed computed_of
   check_does {a} {b} e s p q o P =
       operated 30 x (v.computes b) (o P) refl

@@ -85,10 +85,8 @@ pub fn last_frame(x: &[u8], from: usize, count: usize) -> usize
     ensures { result ≡ from + frames_size (count - 1) (drop from (cells x.now)) }
 {
     let mut at = from;
-    let mut left = count;
-    while 1 < left {
+    for _ in 1..count {
         at = moves::end(moves::open(x, at));
-        left -= 1;
     }
     at
 }
@@ -127,12 +125,10 @@ pub fn starts(live: &[u8], table: &mut [u32], count: usize) -> usize
     ensures { Starting (cells live.now) count table.old result table.new }
 {
     let mut at = 0;
-    let mut i = 0;
-    while i < count {
+    for i in 0..count {
         let next = moves::end(moves::open(live, at));
         table[i] = at as u32;
         at = next;
-        i += 1;
     }
     at
 }

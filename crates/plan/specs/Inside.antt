@@ -14,6 +14,7 @@ use Rattle.moves.specs.declared.Running as registers
 use Rattle.plan.specs.declared.Error.{Error}
 use Rattle.plan.specs.declared.Next.{Next}
 use Rattle.plan.specs.declared.Next.TheVariants.{Goes, Jumps, Throws, Stops}
+use Rattle.refusals.specs.Refusals.{number}
 use Rattle.plan.specs.Rest.{Same}
 use Rattle.plan.specs.Plans.{error_of}
 
@@ -62,7 +63,7 @@ abbrev pub Nexts : Program → Sizes → ℕ → ℕ → M → Running → Next 
 Nexts P z op x m r (Goes g) live live' = Went (outcome P z (opcode_action P m r op x) m) counted m r g (cells live')
 Nexts P z op x m r (Jumps g) live live' = Went (outcome P z (opcode_action P m r op x) m) free m r g (cells live')
 Nexts P z op x m r (Throws g e) live live' = Threw (λ (y : v.Error) (F : List Frame). opcode_action P m r op x ≡ takes (throws y F)) r e g (cells live) × (live' ≡ live)
-Nexts P z op x m r (Stops n) live live' = (outcome P z (opcode_action P m r op x) m ≡ stops n) × (live' ≡ live)
+Nexts P z op x m r (Stops n) live live' = (outcome P z (opcode_action P m r op x) m ≡ stops (number n)) × (live' ≡ live)
 
 -- an opcode op with operand x, whose frame is in g and `old`, does so where Q holds, and leaves the bytes behind the cells
 pub record DoesWhere (Q : M → Running → Type 0) (P : Program) (op x : ℕ) (g : registers.Running) (n : Next) (old new : List ℕ) : Type 0 where

@@ -4,3 +4,4 @@ pub mod Plans
 pub mod Searches
 pub mod Parsed
 pub mod Inside
+pub mod Kinds

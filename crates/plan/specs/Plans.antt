@@ -1,5 +1,5 @@
 -- What a plan does to a machine. What decides it (`call_function` and the others), what it costs, and what carries it out are three functions that agree on this.
-use Rattle.std.specs.Prelude.{◌≡◌, List, [], ◌∷◌, ◌++◌, true, false, ℕ, ◌+◌, ◌-◌, ◌<◌, ◌≤◌, length}
+use Rattle.std.specs.Prelude.{◌≡◌, List, [], ◌∷◌, ◌++◌, true, false, ℕ, ◌+◌, ◌-◌, ◌<◌, ◌≤◌, length, Result, Ok, Err}
 use Rattle.cells.specs.declared.Cell.{Cell}
 use Rattle.image.specs.Records.{if?}
 use Rattle.machine.specs.Values as v
@@ -10,8 +10,7 @@ use Rattle.moves.specs.Frames.{new_written}
 use Rattle.moves.specs.Handlers.{First}
 use Rattle.plan.specs.declared.Params.{Params}
 use Rattle.plan.specs.declared.Error.{Error}
-use Rattle.plan.specs.declared.Computed.{Computed}
-use Rattle.plan.specs.declared.Computed.TheVariants as computed
+use Rattle.plan.specs.Kinds.{kind_of, frame_number}
 use Rattle.plan.specs.declared.Start.{Start}
 use Rattle.plan.specs.declared.Plan.{Plan}
 use Rattle.plan.specs.declared.Plan.TheVariants.{Starts, Resumes, Handles, Catches, Unhandled, Fails, Receives, Returns, Stays}
@@ -21,7 +20,7 @@ abbrev pub params_of : v.Params → Params
 params_of p = record { count = p.count; variadic = p.variadic }
 
 abbrev pub error_of : v.Error → Error
-error_of x = record { kind = (error_shown x).kind; value = (error_shown x).value; second = (error_shown x).second }
+error_of x = record { kind = kind_of x; value = (error_shown x).value; second = (error_shown x).second }
 
 -- the builtin that an error performs, and what it shows
 pub record Throws (x : Error) (r : Cell) : Type 0 where
@@ -30,9 +29,9 @@ pub record Throws (x : Error) (r : Cell) : Type 0 where
 pub record Shows (x : Error) (r : Cell) : Type 0 where
   pub is : (y : v.Error) → x ≡ error_of y → r ≡ shown y
 
-unfoldable pub computed_of : v.Computed → Computed
-computed_of (v.computes c) = computed.Computes c
-computed_of (v.fails x) = computed.Fails (error_of x)
+unfoldable pub computed_of : v.Computed → Result Cell Error
+computed_of (v.computes c) = Ok c
+computed_of (v.fails x) = Err (error_of x)
 
 -- ---- Arguments once they are parsed: how many values they are, and how many cells of the store the list of the rest takes
 unfoldable pub taken_count : Params → ℕ → ℕ
@@ -49,7 +48,7 @@ Enough p n = p.variadic ≡ true → p.count ≤ n
 -- a new frame, whose stack is the parsed arguments
 pub record Started (f : Start) (p : Params) (args : List Cell) (m m' : M) : Type 0 where
   pub frame : Frame
-  pub is : written frame ≡ new_written f.kind f.subject f.locals (parse p.variadic p.count args m.store).args
+  pub is : written frame ≡ new_written (frame_number f.kind) f.subject f.locals (parse p.variadic p.count args m.store).args
   pub enough : Enough p (length args)
   pub after : m' ≡ with_store (frame ∷ m.frames) (parse p.variadic p.count args m.store).store m
 

@@ -1,5 +1,5 @@
 -- What a search for a handler finds, in a frame and in the frames under the top.
-use Rattle.std.specs.Prelude.{◌≡◌, List, ◌∷◌, ◌++◌, true, ℕ, ◌<◌, ◌≤◌, length, get_or}
+use Rattle.std.specs.Prelude.{◌≡◌, List, ◌∷◌, ◌++◌, true, ℕ, ◌<◌, ◌≤◌, length, get_or, Option, Some, None}
 use Rattle.cells.specs.declared.Cell.{Cell}
 use Rattle.machine.specs.Values.{Program, equal_effects}
 use Rattle.machine.specs.Machine as machine
@@ -9,7 +9,6 @@ use Rattle.moves.specs.Runs.{no_handler}
 use Rattle.moves.specs.Handlers.{Misses, First}
 use Rattle.plan.specs.Rest.{Under}
 use Rattle.plan.specs.declared.Found.{Found}
-use Rattle.plan.specs.declared.Found.TheVariants.{In, Nowhere}
 
 -- j is the first of the handlers that has the effect, or their number
 pub record Finds (P : Program) (e : Cell) (hs : List Handler) (j : ℕ) : Type 0 where
@@ -34,6 +33,6 @@ pub record SearchedIn (P : Program) (e : Cell) (F : List Frame) (i j : ℕ) : Ty
   pub at : length below ≡ i
   pub first : First P e (written handler).handlers j
 
-abbrev pub Searched : Program → Cell → List Frame → Found → Type 0
-Searched P e F (In i j) = SearchedIn P e F i j
-Searched P e F Nowhere = search P e F ≡ machine.nowhere
+abbrev pub Searched : Program → Cell → List Frame → Option Found → Type 0
+Searched P e F (Some h) = SearchedIn P e F h.frame h.handler
+Searched P e F None = search P e F ≡ machine.nowhere

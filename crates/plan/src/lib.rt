@@ -1,8 +1,12 @@
-// What opcodes and calls are cut down to before anything is written. Types here, what they mean in specs/; no function.
+// What opcodes and calls are cut down to before anything is written. Types here, what they mean in specs/.
 #![tactic(auto)]
+
+ghost use Rattle.std.specs.Prelude.{◌≡◌};
+ghost use Rattle.plan.specs.Kinds.{kind_number, frame_number};
 
 use cells::Cell;
 use moves::Running;
+use refusals::Refusal;
 
 // The parameters of a code or an effect: their count, and whether more arguments go into a list.
 #[derive(Clone, Copy)]
@@ -11,19 +15,33 @@ pub struct Params {
     pub variadic: bool,
 }
 
-// An error as a result shows it: kind 3 to 10, a cell, a second type.
+// The kinds of errors, by the numbers that a result in memory has for them.
 #[derive(Clone, Copy)]
-pub struct Error {
-    pub kind: u32,
-    pub value: Cell,
-    pub second: u32,
+pub enum ErrorKind {
+    CallArguments = 3,
+    UnOperator = 4,
+    BinOperator = 5,
+    MetaUnOperator = 6,
+    MetaBinOperator = 7,
+    ZeroDivisor = 8,
+    Error = 9,
+    Panic = 10,
 }
 
-// What an operator gives.
+impl ErrorKind {
+    pub fn number(self) -> u32
+        ensures { result ≡ kind_number self }
+    {
+        self as u32
+    }
+}
+
+// An error as a result shows it: its kind, a cell, a second type.
 #[derive(Clone, Copy)]
-pub enum Computed {
-    Computes(Cell),
-    Fails(Error),
+pub struct Error {
+    pub kind: ErrorKind,
+    pub value: Cell,
+    pub second: u32,
 }
 
 // How an opcode ends that stays in its frame: it goes on or jumps, with the frame in registers; its own error is thrown; or it is refused.
@@ -32,7 +50,7 @@ pub enum Next {
     Goes(Running),
     Jumps(Running),
     Throws(Running, Error),
-    Stops(u32),
+    Stops(Refusal),
 }
 
 // How much a machine has: frames, cells of the live stack, cells of the store.
@@ -43,10 +61,31 @@ pub struct Counts {
     pub store: usize,
 }
 
+// The kinds of frames.
+#[derive(Clone, Copy)]
+pub enum FrameKind {
+    Lucia,
+    Host,
+    Effect,
+}
+
+impl FrameKind {
+    // The number that memory has for it.
+    pub fn number(self) -> u32
+        ensures { result ≡ frame_number self }
+    {
+        match self {
+            FrameKind::Lucia => 64,
+            FrameKind::Host => 65,
+            FrameKind::Effect => 66,
+        }
+    }
+}
+
 // The head of a new frame.
 #[derive(Clone, Copy)]
 pub struct Start {
-    pub kind: u32,
+    pub kind: FrameKind,
     pub subject: Cell,
     pub locals: u32,
 }
@@ -67,7 +106,7 @@ pub enum Plan {
 
 // The frame that handles an effect, by its place from the bottom, and its handler's place in it.
 #[derive(Clone, Copy)]
-pub enum Found {
-    In(usize, usize),
-    Nowhere,
+pub struct Found {
+    pub frame: usize,
+    pub handler: usize,
 }

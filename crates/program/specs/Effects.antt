@@ -1,11 +1,10 @@
 -- Laws of equal texts and of equal effects.
-use Rattle.std.specs.Prelude.{◌≡◌, refl, Bool, true, false, ℕ, ◌+◌, ◌<◌, ◌≤◌, get_or, eqb}
+use Rattle.std.specs.Prelude.{◌≡◌, refl, Bool, true, false, ℕ, ◌<◌, ◌≤◌, eqb, ◌&&◌}
+use Rattle.std.specs.Cmp.Lexicographic.{pointwise}
 use Rattle.std.proofs.Math.Path.{sym}
-use Rattle.std.proofs.Common.{ap, ◌∙◌, add-one}
+use Rattle.std.proofs.Common.{◌∙◌}
 use mathlib.Core.List.{List, [], ◌∷◌}
 use native.Mathlib.Omega.{arith}
-use Rattle.std.proofs.Math.ListN.{length, drop, drop_of_length-le}
-use Rattle.std.proofs.Math.Seq.{drop-cons}
 use borrow.Author.Tests.{le-leb, lt-leb, eq-eqb, ne_eqb, eqb-true}
 use Rattle.cells.specs.Le.{le_at}
 use Rattle.image.specs.Records.{both}
@@ -31,43 +30,21 @@ unfolding same both
 same_refl [] = refl
 same_refl (x ∷ s) = simp (eq-eqb x x refl) (same_refl s)
 
--- ---- the loop over two texts: what is left of them is the same if they are
-pub record Alike (a b : List ℕ) (i : ℕ) : Type 0 where
-  pub left : same (drop i a) (drop i b) ≡ same a b
-  pub long : length a ≡ length b
-  pub inside : i ≤ length a
+-- what the library's `==` answers
+and_both : {u v : Bool} (b : Bool) → u ≡ v → b && u ≡ both b v
+unfolding both
+and_both true e = e
+and_both false e = refl
 
-pub alike_first : (a b : List ℕ) → length a ≡ length b → Alike a b 0
-alike_first a b e = record { left = refl; long = e; inside = omega arith }
+pointwise_same : (s t : List ℕ) → pointwise eqb s t ≡ same s t
+unfolding same
+pointwise_same [] [] = refl
+pointwise_same [] (y ∷ t) = refl
+pointwise_same (x ∷ s) [] = refl
+pointwise_same (x ∷ s) (y ∷ t) = and_both (eqb x y) (pointwise_same s t)
 
-pub same_long : (a b : List ℕ) → (length a ≡ length b → ⊥) → false ≡ same a b
-same_long a b h = by (same a b) refl
-  where
-    by : (r : Bool) → same a b ≡ r → false ≡ same a b
-    by true e = absurd (h (ap length (same_true a b e)))
-    by false e = sym e
-
-module _ {a b : List ℕ} {i : ℕ} (w : Alike a b i) where
-  module _ (h : i < length a) where
-    step : same a b ≡ both (eqb (get_or a i 0) (get_or b i 0)) (same (drop (i + 1) a) (drop (i + 1) b))
-    unfolding same
-    step = sym w.left ∙ rw (add-one i, drop-cons a i 0 h, drop-cons b i 0 (let l : i < length b = omega (arith, w.long) in l))
-
-    pub alike_next : get_or a i 0 ≡ get_or b i 0 → Alike a b (i + 1)
-    unfolding both
-    alike_next e = record { left = sym (step ∙ simp (eq-eqb _ _ e)); long = w.long; inside = omega arith }
-
-    pub alike_not : (get_or a i 0 ≡ get_or b i 0 → ⊥) → false ≡ same a b
-    unfolding both
-    alike_not e = sym (step ∙ simp (ne_eqb _ _ e))
-
-  pub alike_ends : length a ≤ i → true ≡ same a b
-  unfolding same
-  alike_ends h =
-      let x : drop i a ≡ [] = drop_of_length-le a h in
-      let l : length b ≤ i = omega (arith, w.long) in
-      let y : drop i b ≡ [] = drop_of_length-le b l in
-      rw (x, y) at w.left
+pub same_is : {r : Bool} (s t : List ℕ) → r ≡ pointwise eqb s t → r ≡ same s t
+same_is s t e = e ∙ pointwise_same s t
 
 -- ---- two effects
 module _ (a b : List ℕ) {x y : ℕ} (e : x ≡ le_at 2 a 0) (f : y ≡ le_at 2 b 0) where

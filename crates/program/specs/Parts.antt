@@ -1,4 +1,4 @@
--- Numbers, parts, opcodes, captures and constants that are read at any place: what lies past the end counts 0, and a part ends where the list ends.
+-- Numbers and parts that are read at any place: what lies past the end counts 0, and a part ends where the list ends.
 use Rattle.std.specs.Prelude.{◌≡◌, refl, List, ℕ, zero, suc, ◌+◌, ◌-◌, ◌*◌, ◌<◌, ◌≤◌, length, get_or, take, drop}
 use Rattle.std.proofs.Common.{sym, ap, ◌∙◌, arith, add-zero, drop_of_length-le, length-drop, take_all}
 use Rattle.std.proofs.Math.ListN.{get_or-eq_default}
@@ -6,18 +6,12 @@ use Rattle.std.proofs.Math.Seq.{take-nil}
 use Rattle.cells.specs.Le.{le_at, le_join, limit}
 use Rattle.image.specs.Program.{tab}
 use Rattle.image.proofs.Parts.{length_tab}
-use Rattle.image.specs.Layout.{field, opcode_at, capture_at, constant_at}
-use Rattle.image.specs.declared.Op.{Op}
-use Rattle.image.specs.declared.Capture.{Capture}
-use Rattle.image.specs.declared.Constant.{Constant}
+use Rattle.image.specs.Layout.{field}
 
 -- a number of a table
 pub record Entry (t : List ℕ) (i r : ℕ) : Type 0 where
   pub is : r ≡ get_or t i 0
   pub fits : r < 4294967296
-
-pub entry_past : (t : List ℕ) (i : ℕ) → length t ≤ i → Entry t i 0
-entry_past t i h = record { is = sym (get_or-eq_default t 0 h); fits = omega arith }
 
 -- a list by number has no item past its last
 pub tab_past : {A : Type 0} (n : ℕ) (f : ℕ → A) (i : ℕ) (d : A) → n ≤ i → get_or (tab n f) i d ≡ d
@@ -38,9 +32,6 @@ pub le_last : (s : List ℕ) (at : ℕ) → length s ≤ at + 1 → get_or s at 
 unfolding le_at
 le_last s at h = omega (arith, le_past 1 s (at + 1) h)
 
-pub byte_past : (s : List ℕ) (i : ℕ) → length s ≤ i → 0 ≡ get_or s i 0
-byte_past s i h = sym (get_or-eq_default s 0 h)
-
 -- two halves
 pub le_halves : (s : List ℕ) (at : ℕ) {a b : ℕ} → a ≡ le_at 2 s at → b ≡ le_at 2 s (at + 2) → a + b * 65536 ≡ le_at 4 s at
 unfolding limit
@@ -56,19 +47,3 @@ module _ (s : List ℕ) (at n : ℕ) where
 
   pub part_inside : take (at + n - at) (drop at s) ≡ take n (drop at s)
   part_inside = let e : at + n - at ≡ n = omega arith in rw e
-
-  pub rest_past : length s ≤ at → take 0 (drop 0 s) ≡ drop at s
-  rest_past h = sym (drop_of_length-le s h)
-
-  pub rest_inside : take (length s - at) (drop at s) ≡ drop at s
-  rest_inside = take_all (length s - at) (drop at s) (simp length-drop (omega arith))
-
--- ---- what is read at a place
-pub op_is : (s : List ℕ) (at i : ℕ) {a b : ℕ} → a ≡ le_at 2 s (at + 6 * i) → b ≡ le_at 4 s (at + 6 * i + 2) → ◌≡◌ {A = Op} (record { number = a; operand = b }) (opcode_at s at i)
-op_is s at i p q = λ j. record { number = p j; operand = q j }
-
-pub capture_is : (s : List ℕ) (at i : ℕ) {a b : ℕ} → a ≡ le_at 2 s (at + 4 * i) → b ≡ le_at 2 s (at + 4 * i + 2) → ◌≡◌ {A = Capture} (record { from = a; index = b }) (capture_at s at i)
-capture_is s at i p q = λ j. record { from = p j; index = q j }
-
-pub constant_is : (s : List ℕ) (at : ℕ) {a b c : ℕ} → a ≡ le_at 2 s (at + 4) → b ≡ le_at 4 s at → (c ≡ b) × (c < 4294967296) → ◌≡◌ {A = Constant} (record { kind = a; place = at + 6; size = c }) (constant_at s at)
-constant_is s at p q r = λ j. record { kind = p j; place = at + 6; size = (r.0 ∙ q) j }

@@ -9,20 +9,8 @@ ghost use Rattle.program.specs.Parts.{Entry};
 
 use image::{Capture, Constant, Op};
 
-// Numbers in wider types, with the bound that the narrower one gave.
-fn wide8(x: u8) -> u16
-    ensures { (result ≡ x) × (result < 256) }
-{
-    x as u16
-}
-
-pub fn wide32(x: u32) -> usize
-    ensures { (result ≡ x) × (result < 4294967296) }
-{
-    x as usize
-}
-
 // The number of two bytes; a byte past the end counts 0.
+#[tactic(auto, using(crate::specs::Parts::le_past, crate::specs::Parts::le_last))]
 pub fn le16(s: &[u8], at: usize) -> u16
     ensures { result ≡ le_at 2 s.now at }
 {
@@ -32,10 +20,11 @@ pub fn le16(s: &[u8], at: usize) -> u16
     if s.len() - at >= 2 {
         return cells::read16(s, at);
     }
-    wide8(s[at])
+    u16::from(s[at])
 }
 
 // The number of four bytes; a byte past the end counts 0.
+#[tactic(auto, using(crate::specs::Parts::le_past, crate::specs::Parts::le_halves))]
 fn le32(s: &[u8], at: usize) -> u32
     ensures { result ≡ le_at 4 s.now at }
 {
@@ -45,47 +34,38 @@ fn le32(s: &[u8], at: usize) -> u32
     if s.len() - at >= 4 {
         return cells::read32(s, at);
     }
-    let low = le16(s, at);
-    let high = le16(s, at + 2);
-    (low as u32) + (high as u32) * 65536
+    u32::from(le16(s, at)) + u32::from(le16(s, at + 2)) * 65536
 }
 
 // A number of a table, 0 past the end.
 pub fn entry(t: &[u32], i: usize) -> usize
     ensures { Entry t.now i result }
 {
-    if i < t.len() {
-        return wide32(t[i]);
-    }
-    0
+    t.get(i).copied().unwrap_or(0) as usize
 }
 
 // A byte, 0 past the end.
 pub fn byte(s: &[u8], i: usize) -> u8
     ensures { result ≡ get_or s.now i 0 }
 {
-    if i < s.len() {
-        return s[i];
-    }
-    0
+    s.get(i).copied().unwrap_or(0)
 }
 
 // The bytes from a place on.
 pub fn rest(s: &[u8], at: usize) -> &[u8]
     ensures { result.now ≡ drop at s.now }
 {
-    if at >= s.len() {
-        return &s[0..0];
-    }
-    &s[at..]
+    &s[at.min(s.len())..]
 }
 
 // The n bytes at a place, as many of them as are there.
+// With `get` or `min` in place of these tests the reader goes over opcodes at three quarters of the speed.
+#[tactic(auto, using(crate::specs::Parts::part_past, crate::specs::Parts::part_end, crate::specs::Parts::part_inside))]
 pub fn part(s: &[u8], at: usize, n: usize) -> &[u8]
     ensures { result.now ≡ part s.now at n }
 {
     if at >= s.len() {
-        return &s[0..0];
+        return &s[..0];
     }
     if s.len() - at <= n {
         return &s[at..];
@@ -99,14 +79,17 @@ pub fn opcode_at(s: &[u8], at: usize, i: usize) -> Op
     ensures { result ≡ opcode_at s.now at i }
 {
     let place = at + 6 * i;
+    // One test where all six bytes are there: with the tests of each number the opcodes are read at half the speed.
     if place + 6 <= s.len() {
-        let number = cells::read16(s, place);
-        let operand = cells::read32(s, place + 2);
-        return Op { number, operand };
+        return Op {
+            number: cells::read16(s, place),
+            operand: cells::read32(s, place + 2),
+        };
     }
-    let number = le16(s, place);
-    let operand = le32(s, place + 2);
-    Op { number, operand }
+    Op {
+        number: le16(s, place),
+        operand: le32(s, place + 2),
+    }
 }
 
 // Capture i of those at a place.
@@ -114,9 +97,11 @@ pub fn capture_at(s: &[u8], at: usize, i: usize) -> Capture
     requires { (at < 8589934592) × (i < 4294967296) }
     ensures { result ≡ capture_at s.now at i }
 {
-    let from = le16(s, at + 4 * i);
-    let index = le16(s, at + 4 * i + 2);
-    Capture { from, index }
+    let place = at + 4 * i;
+    Capture {
+        from: le16(s, place),
+        index: le16(s, place + 2),
+    }
 }
 
 // The constant at a place.
@@ -124,21 +109,18 @@ pub fn constant_at(image: &[u8], at: usize) -> Constant
     requires { at < 8589934592 }
     ensures { result ≡ constant_at image.now at }
 {
+    // One test where all six bytes are there, as for an opcode.
     if at + 6 <= image.len() {
-        let kind = cells::read16(image, at + 4);
-        let size = wide32(cells::read32(image, at));
         return Constant {
-            kind,
+            kind: cells::read16(image, at + 4),
             place: at + 6,
-            size,
+            size: cells::read32(image, at) as usize,
         };
     }
-    let kind = le16(image, at + 4);
-    let size = wide32(le32(image, at));
     Constant {
-        kind,
+        kind: le16(image, at + 4),
         place: at + 6,
-        size,
+        size: le32(image, at) as usize,
     }
 }
 

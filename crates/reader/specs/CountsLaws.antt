@@ -90,8 +90,8 @@ module _ (n : Counts) where
                 unfolding both
                 counts_constants = sym (counts_are ∙ simp (le-leb _ _ a0, le-leb _ _ a1, le-leb _ _ a2, le-leb _ _ a3, le-leb _ _ a4, le-leb _ _ a5, le-leb _ _ a6))
 
-pub counts_is : (image rows : List ℕ) (k : ℕ) {at p v l p' v' l' o g u c d : ℕ} → Entry rows (10 * k) at → p ≡ le_at 2 image at → (p' ≡ p) × (p' < 65536)
-    → v ≡ le_at 2 image (at + 2) → (v' ≡ v) × (v' < 65536) → l ≡ le_at 2 image (at + 4) → (l' ≡ l) × (l' < 65536)
+pub counts_is : (image rows : List ℕ) (k : ℕ) {at p v l p' v' l' o g u c d : ℕ} → Entry rows (10 * k) at → p ≡ le_at 2 image at → p' ≡ p
+    → v ≡ le_at 2 image (at + 2) → v' ≡ v → l ≡ le_at 2 image (at + 4) → l' ≡ l
     → Entry rows (10 * k + 1) o → Entry rows (10 * k + 3) g → Entry rows (10 * k + 5) u → Entry rows (10 * k + 7) c → Entry rows (10 * k + 9) d
     → IsCounts image rows k (record { params = p'; variadic = v'; locals = l'; opcodes = o; globals = g; captures = u; constants = c; codes = d })
 counts_is image rows k a p p' v v' l l' o g u c d =
@@ -99,9 +99,9 @@ counts_is image rows k a p p' v v' l l' o g u c d =
     let x : (i : ℕ) → le_at 2 image (_ + i) ≡ le_at 2 image (field rows k 0 + i) = λ i. ap (λ (y : ℕ). le_at 2 image (y + i)) z in
     let e : _ ≡ counts_at image rows k =
     λ j. record {
-      params = (p'.0 ∙ p ∙ ap (le_at 2 image) z) j;
-      variadic = (v'.0 ∙ v ∙ x 2) j;
-      locals = (l'.0 ∙ l ∙ x 4) j;
+      params = (p' ∙ p ∙ ap (le_at 2 image) z) j;
+      variadic = (v' ∙ v ∙ x 2) j;
+      locals = (l' ∙ l ∙ x 4) j;
       opcodes = o.is j;
       globals = g.is j;
       captures = u.is j;

@@ -1,5 +1,5 @@
 -- An image is read: its structure, then its numbers. What is left in the tables is the program of `parse`.
-use Rattle.std.specs.Prelude.{◌≡◌, refl, List, Bool, true, false, ℕ, ◌*◌, ◌≤◌, length, take}
+use Rattle.std.specs.Prelude.{◌≡◌, refl, List, Bool, true, false, ℕ, ◌*◌, ◌≤◌, length, take, Result, Ok, Err, MatchResult, IsOkAnd}
 use Rattle.std.proofs.Common.{sym, ◌∙◌, arith}
 use Rattle.std.proofs.Math.Path.{ap}
 use Rattle.image.specs.Records.{if?, Answer, refused, accepted, then}
@@ -8,8 +8,10 @@ use Rattle.image.specs.Image.{parse}
 use Rattle.image.specs.Layout.{Tables, layout, code_at, program_of}
 use Rattle.image.proofs.Agrees.{agrees}
 use Rattle.layout.specs.Reads.{out_of, Low, Low?, Laid}
-use Rattle.layout.specs.declared.Read.{Read}
-use Rattle.layout.specs.declared.Read.TheVariants.{Refused, Accepted}
+use Rattle.layout.specs.declared.Sizes.{Sizes}
+use Rattle.refusals.specs.Refusals.{number_of}
+use Rattle.refusals.specs.declared.Refusal.{Refusal}
+use Rattle.refusals.specs.declared.Refusal.TheVariants.{ImageNumber}
 
 -- the structure, then the numbers
 unfoldable pub tested : List ℕ → Answer Tables
@@ -37,12 +39,12 @@ tested_is image = by (layout image) ∙ agrees image
     by (refused n) = refl
     by (accepted t) = fine (program_fine image (program_of image t)) t
 
-pub record Reads (image : List ℕ) (r : Read) (rows constants inner : List ℕ) : Type 0 where
+pub record Reads (image : List ℕ) (r : Result Sizes Refusal) (rows constants inner : List ℕ) : Type 0 where
   pub does : out_of r rows constants inner ≡ tested image
   pub shows : shown image (out_of r rows constants inner) ≡ parse image
   pub low : Low? r
 
-reads : (image : List ℕ) {r : Read} {rows constants inner : List ℕ} → out_of r rows constants inner ≡ tested image → Low? r → Reads image r rows constants inner
+reads : (image : List ℕ) {r : Result Sizes Refusal} {rows constants inner : List ℕ} → out_of r rows constants inner ≡ tested image → Low? r → Reads image r rows constants inner
 reads image e l = record { does = e; shows = ap (shown image) e ∙ tested_is image; low = l }
 
 -- so much is in the tables
@@ -52,34 +54,30 @@ pub record Fits (c u k : ℕ) (t p n : List ℕ) : Type 0 where
   pub constants : u ≤ length p
   pub inner : k ≤ length n
 
-module _ {image : List ℕ} {r : Read} {rows constants inner : List ℕ} (w : Laid image r rows constants inner) where
-  pub laid_low : {c u k : ℕ} → r ≡ Accepted c u k → Low c u k
-  laid_low e = rw e at w.low
-
-  pub laid_fits : {c u k : ℕ} → r ≡ Accepted c u k → 2560 ≤ length rows → 10923 ≤ length constants → 256 ≤ length inner → Fits c u k rows constants inner
-  laid_fits e a b d =
-      let l = laid_low e in
+module _ {image : List ℕ} {r : Result Sizes Refusal} {rows constants inner : List ℕ} (w : Laid image r rows constants inner) where
+  pub laid_fits : {h : Sizes} → r ≡ Ok h → 2560 ≤ length rows → 10923 ≤ length constants → 256 ≤ length inner → Fits h.codes h.constants h.inner rows constants inner
+  laid_fits {h} e a b d =
+      let l : Low h.codes h.constants h.inner = rw e at w.low in
       record { codes = l.codes; rows = a; constants = omega (arith, l.used); inner = omega (arith, l.codes, l.kept) }
 
-  pub reads_refused : {n : ℕ} → r ≡ Refused n → Reads image (Refused n) rows constants inner
+  pub reads_refused : {x : Refusal} → r ≡ Err x → Reads image (Err x) rows constants inner
   unfolding tested
   reads_refused e = reads image (ap (then _) (rw e at w.does)) (rw e at w.low)
 
-  module _ {c u k : ℕ} (e : r ≡ Accepted c u k) {t : Bool} (f : t ≡ program_fine image (tab c (code_at image (take (10 * c) rows) (take u constants) (take k inner)))) where
-    tested_to : tested image ≡ if? t (out_of (Accepted c u k) rows constants inner) (refused 3)
+  module _ {h : Sizes} (e : r ≡ Ok h) {t : Bool} (f : t ≡ program_fine image (tab h.codes (code_at image (take (10 * h.codes) rows) (take h.constants constants) (take h.inner inner)))) where
+    tested_to : tested image ≡ if? t (out_of (Ok h) rows constants inner) (refused 3)
     unfolding tested
-    tested_to = ap (then _) (sym (rw e at w.does)) ∙ ap (λ (b : Bool). if? b (out_of (Accepted c u k) rows constants inner) (refused 3)) (sym f)
+    tested_to = ap (then _) (sym (rw e at w.does)) ∙ ap (λ (b : Bool). if? b (out_of (Ok h) rows constants inner) (refused 3)) (sym f)
 
-    pub reads_accepted : t ≡ true → Reads image (Accepted c u k) rows constants inner
-    reads_accepted y = reads image (sym (rw y at tested_to)) (laid_low e)
+    pub reads_accepted : t ≡ true → Reads image (Ok h) rows constants inner
+    reads_accepted y = reads image (sym (rw y at tested_to)) (rw e at w.low)
 
-    pub reads_not : t ≡ false → Reads image (Refused 3) rows constants inner
+    pub reads_not : t ≡ false → Reads image (Err ImageNumber) rows constants inner
     reads_not y = reads image (sym (rw y at tested_to)) (omega arith)
 
 -- the answer's number
-module _ {image : List ℕ} {r : Read} {rows constants inner : List ℕ} (w : Reads image r rows constants inner) where
-  pub refusal_is : {n : ℕ} → r ≡ Refused n → n ≡ refusal_of (parse image)
-  refusal_is e = ap refusal_of (rw e at w.shows)
-
-  pub refusal_none : {c u k : ℕ} → r ≡ Accepted c u k → 0 ≡ refusal_of (parse image)
-  refusal_none e = ap refusal_of (rw e at w.shows)
+pub reads_number : {image : List ℕ} (r : Result Sizes Refusal) {rows constants inner : List ℕ} → Reads image r rows constants inner
+    → (o : Result (Unit {0}) Refusal) (P : Sizes → Unit {0} → Type 0) → MatchResult r (λ h. IsOkAnd o (P h)) (λ x. o ≡ Err x) → number_of o ≡ refusal_of (parse image)
+reads_number (Ok h) w (Ok u) P m = ap refusal_of w.shows
+reads_number (Ok h) w (Err x) P m = absurd m
+reads_number (Err x) w o P m = ap number_of m ∙ ap refusal_of w.shows

@@ -1,12 +1,9 @@
 -- The rules of crate `image` by number, as the code tests them: a code by its counts, and every item of a part by its number in it.
-use Rattle.std.specs.Prelude.{◌≡◌, Bool, true, List, [], ◌∷◌, ℕ, ◌+◌, ◌-◌, ◌*◌, ◌<◌, length, get_or, ltb, leb}
+use Rattle.std.specs.Prelude.{◌≡◌, Bool, true, List, ℕ, ◌+◌, ◌-◌, ◌*◌, ◌<◌, length, get_or, ltb, leb}
 use Rattle.cells.specs.Le.{le_at}
 use Rattle.image.specs.Records.{if?, both}
-use Rattle.image.specs.Program.{Code, tab, no_op, operand_kind, opcode_fine, constant_fine, capture_fine, counts_fine, last_fine}
+use Rattle.image.specs.Program.{Code, tab, no_op, opcode_fine, constant_fine, capture_fine, counts_fine, last_fine}
 use Rattle.image.specs.Layout.{field, opcode_at, capture_at, constant_at, code_at}
-use Rattle.image.specs.declared.Op.{Op}
-use Rattle.image.specs.declared.OperandKind.{OperandKind}
-use Rattle.image.specs.declared.OperandKind.TheVariants.{Unused, Count, ValueType, Local, Global, Upvalue, Const, Target, LeftOut}
 use Rattle.reader.specs.declared.Counts.{Counts}
 use Rattle.reader.specs.Every.{every}
 
@@ -57,26 +54,6 @@ pub record IsCounts (image rows : List ℕ) (k : ℕ) (n : Counts) : Type 0 wher
   pub globals : n.globals < 4294967296
   pub constants : n.constants < 4294967296
   pub codes : n.codes < 4294967296
-
--- ---- operands: the kinds in order, and below which number an operand of each kind lies
-abbrev pub kind_number : OperandKind → ℕ
-kind_number Unused = 0
-kind_number Count = 1
-kind_number ValueType = 2
-kind_number Local = 3
-kind_number Global = 4
-kind_number Upvalue = 5
-kind_number Const = 6
-kind_number Target = 7
-kind_number LeftOut = 8
-
-abbrev pub limits : Counts → List ℕ
-limits n = 1 ∷ 4294967296 ∷ 10 ∷ n.locals ∷ n.globals ∷ n.captures ∷ n.constants ∷ n.opcodes ∷ 0 ∷ []
-
--- an opcode is tested against a table of limits
-pub record Below (l : List ℕ) (o : Op) (r : Bool) : Type 0 where
-  pub is : r ≡ ltb o.operand (get_or l (kind_number (operand_kind o.number)) 0)
-  pub fits : o.operand < 4294967296
 
 -- ---- every item
 abbrev pub opcodes_fine : List ℕ → ℕ → Counts → Bool

@@ -2,14 +2,15 @@
 #![tactic(auto)]
 
 ghost use Rattle.std.specs.Prelude.{◌≡◌, ◌*◌, ◌≤◌, ◌<◌, length, take};
-ghost use Rattle.image.specs.Program.{last_fine, effect_fine, constant_fine, capture_fine, counts_fine, code_fine, program_fine, tab};
+ghost use Rattle.image.specs.Program.{opcode_fine, last_fine, effect_fine, constant_fine, capture_fine, counts_fine, code_fine, program_fine, tab};
 ghost use Rattle.image.specs.Layout.{code_at};
-ghost use Rattle.reader.specs.Rules.{kind_number, limits, Below, counted, IsCounts, opcodes_fine, globals_fine, captures_fine, constants_fine, inner_fine, all_inner_fine, own_fine};
+ghost use Rattle.reader.specs.Rules.{counted, IsCounts, opcodes_fine, globals_fine, captures_fine, constants_fine, inner_fine, all_inner_fine, own_fine};
 ghost use Rattle.image.specs.Image.{parse};
 ghost use Rattle.reader.specs.Reads.{Fits, Reads, refusal_of};
 
 use image::{Capture, Constant, Op, OperandKind};
-use layout::Read;
+use layout::Sizes;
+use refusals::Refusal;
 
 // How many there are of each in a code.
 #[derive(Clone, Copy)]
@@ -24,53 +25,22 @@ pub struct Counts {
     pub codes: usize,
 }
 
-// A number in a wider type, with the bound that the narrower one gave.
-fn wide16(x: u16) -> usize
-    ensures { (result ≡ x) × (result < 65536) }
+// Does an opcode keep its operand's rule in a code of these counts?
+fn opcode_fine(n: Counts, o: Op) -> bool
+    ensures { result ≡ opcode_fine (counted n) o }
 {
-    x as usize
-}
-
-// The number of a kind of operand.
-fn kind_number(kind: OperandKind) -> usize
-    ensures { (result ≡ kind_number kind) × (result < 9) }
-{
-    match kind {
-        OperandKind::Unused => 0,
-        OperandKind::Count => 1,
-        OperandKind::ValueType => 2,
-        OperandKind::Local => 3,
-        OperandKind::Global => 4,
-        OperandKind::Upvalue => 5,
-        OperandKind::Const => 6,
-        OperandKind::Target => 7,
-        OperandKind::LeftOut => 8,
+    let operand = o.operand as usize;
+    match image::operand_kind(o.number) {
+        OperandKind::Unused => operand == 0,
+        OperandKind::Count => true,
+        OperandKind::ValueType => operand <= 9,
+        OperandKind::Local => operand < n.locals,
+        OperandKind::Global => operand < n.globals,
+        OperandKind::Upvalue => operand < n.captures,
+        OperandKind::Const => operand < n.constants,
+        OperandKind::Target => operand < n.opcodes,
+        OperandKind::LeftOut => false,
     }
-}
-
-// Below which number an operand of each kind lies in a code of these counts, in the order of the kinds; made once for all opcodes of a code.
-fn limits(n: Counts) -> [usize; 9]
-    ensures { result ≡ limits n }
-{
-    [
-        1,
-        4294967296,
-        10,
-        n.locals,
-        n.globals,
-        n.captures,
-        n.constants,
-        n.opcodes,
-        0,
-    ]
-}
-
-// Does the operand of an opcode lie below its limit?
-fn opcode_fine(limits: &[usize; 9], o: Op) -> bool
-    ensures { Below limits.now o result }
-{
-    let kind = kind_number(image::operand_kind(o.number));
-    program::wide32(o.operand) < limits[kind]
 }
 
 // Do all opcodes of a part keep their rule in a code of these counts?
@@ -78,16 +48,7 @@ fn opcodes_fine(part: &[u8], n: Counts) -> bool
     requires { n.opcodes < 4294967296 }
     ensures { result ≡ opcodes_fine part.now 0 n }
 {
-    let below = limits(n);
-    let mut i: usize = 0;
-    while i < n.opcodes {
-        let o = program::opcode_at(part, 0, i);
-        if !opcode_fine(&below, o) {
-            return false;
-        }
-        i += 1;
-    }
-    true
+    (0..n.opcodes).all(|i| opcode_fine(n, program::opcode_at(part, 0, i)))
 }
 
 // May a code end with this opcode?
@@ -106,14 +67,7 @@ fn globals_fine(part: &[u8], count: usize) -> bool
     requires { count < 4294967296 }
     ensures { result ≡ globals_fine part.now 0 count }
 {
-    let mut i: usize = 0;
-    while i < count {
-        if program::le16(part, 2 * i) > 255 {
-            return false;
-        }
-        i += 1;
-    }
-    true
+    (0..count).all(|i| program::le16(part, 2 * i) <= 255)
 }
 
 // Does a capture lie in an enclosing code of these counts?
@@ -122,12 +76,12 @@ fn capture_fine(outer: Counts, c: Capture) -> bool
 {
     let from = c.from;
     if from == 0 {
-        return wide16(c.index) < outer.locals;
+        return usize::from(c.index) < outer.locals;
     }
     if from != 1 {
         return false;
     }
-    wide16(c.index) < outer.captures
+    usize::from(c.index) < outer.captures
 }
 
 // Do all captures of a part lie in it?
@@ -135,15 +89,7 @@ fn captures_fine(part: &[u8], count: usize, outer: Counts) -> bool
     requires { count < 4294967296 }
     ensures { result ≡ captures_fine part.now 0 count outer }
 {
-    let mut i: usize = 0;
-    while i < count {
-        let c = program::capture_at(part, 0, i);
-        if !capture_fine(outer, c) {
-            return false;
-        }
-        i += 1;
-    }
-    true
+    (0..count).all(|i| capture_fine(outer, program::capture_at(part, 0, i)))
 }
 
 // Are the numbers and the name of an effect's body fine?
@@ -175,7 +121,7 @@ fn constant_fine(image: &[u8], codes: usize, c: Constant) -> bool
     match kind {
         17 => program::byte(body, 0) <= 1,
         20 => utf8::is_utf8(body),
-        22 => wide16(program::le16(body, 0)) < codes,
+        22 => usize::from(program::le16(body, 0)) < codes,
         23 => effect_fine(body),
         _ => true,
     }
@@ -186,15 +132,10 @@ fn constants_fine(image: &[u8], constants: &[u32], from: usize, count: usize, co
     requires { (from < 4294967296) × (count < 4294967296) }
     ensures { result ≡ constants_fine image.now constants.now from count codes }
 {
-    let mut j: usize = 0;
-    while j < count {
-        let c = program::constant_at(image, program::entry(constants, from + j));
-        if !constant_fine(image, codes, c) {
-            return false;
-        }
-        j += 1;
-    }
-    true
+    (0..count).all(|j| {
+        let place = program::entry(constants, from + j);
+        constant_fine(image, codes, program::constant_at(image, place))
+    })
 }
 
 // The counts of code k.
@@ -205,9 +146,9 @@ pub fn counts_at(image: &[u8], rows: &[u32], k: usize) -> Counts
     let row = 10 * k;
     let at = program::entry(rows, row);
     Counts {
-        params: wide16(program::le16(image, at)),
-        variadic: wide16(program::le16(image, at + 2)),
-        locals: wide16(program::le16(image, at + 4)),
+        params: usize::from(program::le16(image, at)),
+        variadic: usize::from(program::le16(image, at + 2)),
+        locals: usize::from(program::le16(image, at + 4)),
         opcodes: program::entry(rows, row + 1),
         globals: program::entry(rows, row + 3),
         captures: program::entry(rows, row + 5),
@@ -269,15 +210,7 @@ fn all_inner_fine(
     requires { (from < 4294967296) × (n.codes < 4294967296) }
     ensures { result ≡ all_inner_fine image.now rows.now inner.now codes from n }
 {
-    let mut j: usize = 0;
-    while j < n.codes {
-        let k = program::entry(inner, from + j);
-        if !inner_fine(image, rows, codes, n, k) {
-            return false;
-        }
-        j += 1;
-    }
-    true
+    (0..n.codes).all(|j| inner_fine(image, rows, codes, n, program::entry(inner, from + j)))
 }
 
 // Do the counts, opcodes and globals of code k keep their rules?
@@ -338,53 +271,39 @@ fn all_fine(image: &[u8], rows: &[u32], constants: &[u32], inner: &[u32], codes:
     requires { codes < 4294967296 }
     ensures { result ≡ program_fine image.now (tab codes (code_at image.now rows.now constants.now inner.now)) }
 {
-    let mut k: usize = 0;
-    while k < codes {
-        if !code_fine(image, rows, constants, inner, codes, k) {
-            return false;
-        }
-        k += 1;
-    }
-    true
+    (0..codes).all(|k| code_fine(image, rows, constants, inner, codes, k))
 }
 
 // The same where only the front of each table is filled.
-fn tables_fine(
-    image: &[u8],
-    rows: &[u32],
-    constants: &[u32],
-    inner: &[u32],
-    codes: usize,
-    used: usize,
-    kept: usize,
-) -> bool
-    requires { Fits codes used kept rows.now constants.now inner.now }
-    ensures { result ≡ program_fine image.now (tab codes (code_at image.now (take (10 * codes) rows.now) (take used constants.now) (take kept inner.now))) }
+fn tables_fine(image: &[u8], rows: &[u32], constants: &[u32], inner: &[u32], held: Sizes) -> bool
+    requires { Fits held.codes held.constants held.inner rows.now constants.now inner.now }
+    ensures { result ≡ program_fine image.now (tab held.codes (code_at image.now (take (10 * held.codes) rows.now) (take held.constants constants.now) (take held.inner inner.now))) }
 {
-    let end = 10 * codes;
+    let end = 10 * held.codes;
     all_fine(
         image,
         &rows[..end],
-        &constants[..used],
-        &inner[..kept],
-        codes,
+        &constants[..held.constants],
+        &inner[..held.inner],
+        held.codes,
     )
 }
 
 // An image is read into the tables: its structure, then its numbers.
-pub fn read_image(image: &[u8], rows: &mut [u32], constants: &mut [u32], inner: &mut [u32]) -> Read
+pub fn read_image(
+    image: &[u8],
+    rows: &mut [u32],
+    constants: &mut [u32],
+    inner: &mut [u32],
+) -> Result<Sizes, Refusal>
     requires { (2560 ≤ length rows.old) × (10923 ≤ length constants.old) × (256 ≤ length inner.old) }
     ensures { Reads image.now result rows.new constants.new inner.new }
 {
-    match layout::read_layout(image, rows, constants, inner) {
-        Read::Refused(n) => Read::Refused(n),
-        Read::Accepted(codes, used, kept) => {
-            if tables_fine(image, rows, constants, inner, codes, used, kept) {
-                return Read::Accepted(codes, used, kept);
-            }
-            Read::Refused(3)
-        }
+    let held = layout::read_layout(image, rows, constants, inner)?;
+    if tables_fine(image, rows, constants, inner, held) {
+        return Ok(held);
     }
+    Err(Refusal::ImageNumber)
 }
 
 // The refusal of an image, 0 for none.
@@ -394,10 +313,8 @@ pub fn refusal(image: &[u8]) -> u32
     let mut rows = [0u32; 2560];
     let mut constants = [0u32; 10923];
     let mut inner = [0u32; 256];
-    match read_image(image, &mut rows, &mut constants, &mut inner) {
-        Read::Refused(n) => n,
-        Read::Accepted(_, _, _) => 0,
-    }
+    let read = read_image(image, &mut rows, &mut constants, &mut inner);
+    refusals::number_of(read.map(|_| ()))
 }
 
 // The same by another name, which `reader_c` exports to C.

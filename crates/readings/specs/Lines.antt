@@ -1,94 +1,110 @@
--- The search for a line of the page, byte by byte.
-use Rattle.std.proofs.Math.Path.{◌≡◌, refl}
-use Rattle.std.proofs.Common.{sym, ap, ◌∙◌, arith, drop_of_length-le, drop-cons, eq-eqb, ne_eqb}
-use Rattle.std.specs.Prelude.{List, [], ◌∷◌, ℕ, ◌+◌, ◌<◌, ◌-◌, ◌≤◌, suc, zero, get_or, drop}
-use Rattle.std.proofs.Math.ListN.{length}
+-- The search for a line of the page, LF by LF.
+use Rattle.std.specs.Prelude.{◌≡◌, refl, List, [], ◌∷◌, Bool, true, false, Option, Some, None, unwrap_or, ℕ, zero, suc, ◌+◌, ◌-◌, ◌<◌, ◌≤◌, eqb, length, take, drop}
+use Rattle.std.specs.List.{position, position_or_len}
+use Rattle.std.proofs.Common.{sym, ap, ◌∙◌, arith, drop-drop, length-drop, lt-ltb, le-ltb}
+use Rattle.std.proofs.Math.Decide.{dec_lt}
+use Rattle.cells.specs.Parts.{part_end}
 use Rattle.machine.specs.Calls.{line_of, of_page, Line, line, missing}
-use Rattle.asks.specs.Asks.{part_of}
-use Rattle.asks.specs.declared.Part.{Part}
-use Rattle.readings.specs.declared.Found.{Found}
-use Rattle.readings.specs.declared.Found.TheVariants.{At, Missing}
-use Rattle.readings.specs.Readings.{found_of}
+use Rattle.readings.specs.declared.Spot.TheVariants.{Page}
+use Rattle.readings.specs.Readings.{is_feed, found_of, given_at}
 
--- `left` lines and the one that is sought are still to come; the line under way began at `start`
-pub record Seeking (page : List ℕ) (k left start i : ℕ) : Type 0 where
-  pub rest : line_of k 0 0 page ≡ line_of left start (i - start) (drop i page)
-  pub began : start ≤ i
-  pub inside : i ≤ length page
+-- how many bytes stand before the first LF
+abbrev before : List ℕ → ℕ
+before s = position_or_len is_feed s
 
-pub seeking_first : (page : List ℕ) (k : ℕ) → Seeking page k k 0 0
-seeking_first page k = record { rest = refl; began = omega arith; inside = omega arith }
-
-line_end : (at n x : ℕ) (s : List ℕ) → x ≡ 10 → line_of 0 at n (x ∷ s) ≡ line at n
+-- ---- The first LF ends a line, or there is none
+line_last : (at n : ℕ) (s : List ℕ) → before s < length s → line_of zero at n s ≡ line at (n + before s)
 unfolding line_of
-line_end at n x s e = rw (eq-eqb x 10 e)
+line_last at n [] h = absurd (omega arith)
+line_last at n (x ∷ s) h = by (eqb x 10) refl (line_last at (n + 1) s)
+  where
+    by : (b : Bool) → eqb x 10 ≡ b → (before s < length s → line_of zero at (n + 1) s ≡ line at (n + 1 + before s)) → line_of zero at n (x ∷ s) ≡ line at (n + before (x ∷ s))
+    by true e more = rw e (ap (line at) (omega arith))
+    by false e more = let l = rw e at h in rw e (more (omega (arith, l)) ∙ ap (line at) (omega arith))
 
-line_next : (k at n x : ℕ) (s : List ℕ) → x ≡ 10 → line_of (suc k) at n (x ∷ s) ≡ line_of k (at + n + 1) 0 s
+line_more : (k at n : ℕ) (s : List ℕ) → before s < length s → line_of (suc k) at n s ≡ line_of k (at + n + before s + 1) 0 (drop (before s + 1) s)
 unfolding line_of
-line_next k at n x s e = rw (eq-eqb x 10 e)
+line_more k at n [] h = absurd (omega arith)
+line_more k at n (x ∷ s) h = by (eqb x 10) refl (line_more k at (n + 1) s)
+  where
+    by : (b : Bool) → eqb x 10 ≡ b → (before s < length s → line_of (suc k) at (n + 1) s ≡ line_of k (at + (n + 1) + before s + 1) 0 (drop (before s + 1) s))
+        → line_of (suc k) at n (x ∷ s) ≡ line_of k (at + n + before (x ∷ s) + 1) 0 (drop (before (x ∷ s) + 1) (x ∷ s))
+    by true e more = rw e (ap (λ (m : ℕ). line_of k m 0 s) (omega arith))
+    by false e more =
+        let l = rw e at h in
+        let a : at + (n + 1) + before s + 1 ≡ at + n + (1 + before s) + 1 = omega arith in
+        let b : 1 + before s + 1 ≡ suc (before s + 1) = omega arith in
+        rw (e, b) (more (omega (arith, l)) ∙ ap (λ (m : ℕ). line_of k m 0 (drop (before s + 1) s)) a)
 
-line_on : (k at n x : ℕ) (s : List ℕ) → (x ≡ 10 → ⊥) → line_of k at n (x ∷ s) ≡ line_of k at (n + 1) s
+line_none : (k at n : ℕ) (s : List ℕ) → length s ≤ before s → line_of k at n s ≡ missing
 unfolding line_of
-line_on zero at n x s e = rw (ne_eqb x 10 e)
-line_on (suc k) at n x s e = rw (ne_eqb x 10 e)
+line_none zero at n [] h = refl
+line_none (suc k) at n [] h = refl
+line_none zero at n (x ∷ s) h = by (eqb x 10) refl (line_none zero at (n + 1) s)
+  where
+    by : (b : Bool) → eqb x 10 ≡ b → (length s ≤ before s → line_of zero at (n + 1) s ≡ missing) → line_of zero at n (x ∷ s) ≡ missing
+    by true e more = let l = rw e at h in absurd (omega (arith, l))
+    by false e more = let l = rw e at h in rw e (more (omega (arith, l)))
+line_none (suc k) at n (x ∷ s) h = by (eqb x 10) refl (line_none (suc k) at (n + 1) s)
+  where
+    by : (b : Bool) → eqb x 10 ≡ b → (length s ≤ before s → line_of (suc k) at (n + 1) s ≡ missing) → line_of (suc k) at n (x ∷ s) ≡ missing
+    by true e more = let l = rw e at h in absurd (omega (arith, l))
+    by false e more = let l = rw e at h in rw e (more (omega (arith, l)))
 
-line_none : (k at n : ℕ) → line_of k at n [] ≡ missing
-unfolding line_of
-line_none zero at n = refl
-line_none (suc k) at n = refl
+-- what the search of a list gives
+feed_at : (s : List ℕ) {o : Option ℕ} {m : ℕ} → o ≡ position is_feed s → o ≡ Some m → (m < length s) × (m ≡ before s)
+feed_at s {o} {m} w e = by (dec_lt (before s) (length s))
+  where
+    by : Dec (before s < length s) → (m < length s) × (m ≡ before s)
+    by (yes h) = let q : m ≡ before s = let y = rw (lt-ltb _ _ h) at w in cc in (omega arith, q)
+    by (no h) = let y = rw (le-ltb (before s) (length s) (omega arith)) at w in cc
 
-module _ {page : List ℕ} {k left start i : ℕ} (w : Seeking page k left start i) where
-  module _ (h : i < length page) where
-    at_byte : line_of k 0 0 page ≡ line_of left start (i - start) (get_or page i 0 ∷ drop (i + 1) page)
-    at_byte =
-        let e : suc i ≡ i + 1 = omega arith in
-        w.rest ∙ ap (line_of left start (i - start)) (drop-cons page i 0 h ∙ ap (λ (j : ℕ). get_or page i 0 ∷ drop j page) e)
+feed_none : (s : List ℕ) {o : Option ℕ} → o ≡ position is_feed s → o ≡ None → length s ≤ before s
+feed_none s {o} w e = by (dec_lt (before s) (length s))
+  where
+    by : Dec (before s < length s) → length s ≤ before s
+    by (yes h) = let y = rw (lt-ltb _ _ h) at w in cc
+    by (no h) = omega arith
 
-    pub line_found : get_or page i 0 ≡ 10 → left ≡ 0 → At start (i - start) ≡ found_of (line_of k 0 0 page)
-    line_found e z = ap found_of (sym (at_byte ∙ ap (λ (n : ℕ). line_of n start (i - start) (get_or page i 0 ∷ drop (i + 1) page)) z ∙ line_end start (i - start) (get_or page i 0) (drop (i + 1) page) e))
+-- ---- i lines are passed, and the next begins at `start`
+pub record Seeking (page : List ℕ) (k start i : ℕ) : Type 0 where
+  pub rest : line_of k 0 0 page ≡ line_of (k - i) start 0 (drop start page)
+  pub inside : start ≤ length page
 
-    after_line : get_or page i 0 ≡ 10 → (left ≡ 0 → ⊥) → Seeking page k (left - 1) (i + 1) (i + 1)
-    after_line e z =
-        let a : left ≡ suc (left - 1) = omega arith in
-        let b : start + (i - start) + 1 ≡ i + 1 = omega (arith, w.began) in
-        let c : 0 ≡ i + 1 - (i + 1) = omega arith in
+pub seeking_first : (page : List ℕ) (k : ℕ) → Seeking page k 0 0
+seeking_first page k = let e : k - 0 ≡ k = omega arith in record { rest = rw e; inside = omega arith }
+
+module _ {page : List ℕ} {k start i : ℕ} (w : Seeking page k start i) {o : Option ℕ} (g : o ≡ position is_feed (take (length page - start) (drop start page))) where
+  f : o ≡ position is_feed (drop start page)
+  f = g ∙ ap (position is_feed) (part_end page start)
+
+  pub seeking_none : o ≡ None → None ≡ found_of (line_of k 0 0 page)
+  seeking_none e = ap found_of (sym (w.rest ∙ line_none (k - i) start 0 (drop start page) (feed_none (drop start page) f e)))
+
+  module _ {m : ℕ} (e : o ≡ Some m) where
+    pub feed_inside : start + m < length page
+    feed_inside = omega (arith, feed_at (drop start page) f e, length-drop start page)
+
+    pub seeking_next : i < k → Seeking page k (start + (m + 1)) (i + 1)
+    seeking_next h =
+        let a : k - i ≡ suc (k - (i + 1)) = omega arith in
+        let b : start + 0 + m + 1 ≡ start + (m + 1) = omega arith in
+        let q = feed_at (drop start page) f e in
         record {
-          rest = at_byte ∙ ap (λ (n : ℕ). line_of n start (i - start) (get_or page i 0 ∷ drop (i + 1) page)) a ∙ line_next (left - 1) start (i - start) (get_or page i 0) (drop (i + 1) page) e
-              ∙ ap (λ (n : ℕ). line_of (left - 1) n 0 (drop (i + 1) page)) b ∙ ap (λ (n : ℕ). line_of (left - 1) (i + 1) n (drop (i + 1) page)) c;
-          began = omega arith;
-          inside = omega arith;
+          rest = w.rest ∙ ap (λ (n : ℕ). line_of n start 0 (drop start page)) a
+              ∙ line_more (k - (i + 1)) start 0 (drop start page) (omega (arith, q)) ∙ ap (λ (n : ℕ). line_of (k - (i + 1)) (start + 0 + n + 1) 0 (drop (n + 1) (drop start page))) (sym q.1)
+              ∙ ap (λ (n : ℕ). line_of (k - (i + 1)) n 0 (drop (m + 1) (drop start page))) b ∙ ap (line_of (k - (i + 1)) (start + (m + 1)) 0) (drop-drop (m + 1) start page);
+          inside = omega (arith, feed_inside);
         }
 
-    after_byte : (get_or page i 0 ≡ 10 → ⊥) → Seeking page k left start (i + 1)
-    after_byte n =
-        let c : i - start + 1 ≡ i + 1 - start = omega (arith, w.began) in
-        record { rest = at_byte ∙ line_on left start (i - start) (get_or page i 0) (drop (i + 1) page) n ∙ ap (λ (m : ℕ). line_of left start m (drop (i + 1) page)) c; began = omega (arith, w.began); inside = omega arith }
-
-    -- the two ways that the branch on the byte takes
-    module _ {left' start' : ℕ} where
-      pub seeking_line : get_or page i 0 ≡ 10 → (left ≡ 0 → ⊥) → left' ≡ left - 1 → start' ≡ i + 1 → Seeking page k left' start' (i + 1)
-      seeking_line e z a b = rw (a, b) (after_line e z)
-
-      pub seeking_byte : (get_or page i 0 ≡ 10 → ⊥) → left' ≡ left → start' ≡ start → Seeking page k left' start' (i + 1)
-      seeking_byte n a b = rw (a, b) (after_byte n)
-
-  pub line_missing : length page ≤ i → Missing ≡ found_of (line_of k 0 0 page)
-  line_missing h = ap found_of (sym (w.rest ∙ ap (line_of left start (i - start)) (drop_of_length-le page h) ∙ line_none left start (i - start)))
+    pub seeking_found : k ≤ i → Some (record { start = start; size = m }) ≡ found_of (line_of k 0 0 page)
+    seeking_found h =
+        let a : k - i ≡ 0 = omega arith in
+        let q = feed_at (drop start page) f e in
+        ap found_of (sym (w.rest ∙ ap (λ (n : ℕ). line_of n start 0 (drop start page)) a ∙ line_last start 0 (drop start page) (omega (arith, q)) ∙ ap (line start) (omega (arith, q))))
 
 -- where a message stands; a missing one is empty, at the page's end
-module _ (page : List ℕ) (k : ℕ) {f : Found} {r : Part} (h : f ≡ found_of (line_of k 0 0 page)) where
-  pub message_there : {at n : ℕ} → f ≡ At at n → r ≡ record { code = 0; from = 1; start = at; len = n } → r ≡ part_of 0 (of_page page (line_of k 0 0 page))
-  unfolding of_page
-  message_there {at} {n} e q = q ∙ by (line_of k 0 0 page) (sym e ∙ h)
-    where
-      by : (l : Line) → At at n ≡ found_of l → record { code = 0; from = 1; start = at; len = n } ≡ part_of 0 (of_page page l)
-      by (line b m) h = let e : at ≡ b = cc in let f : n ≡ m = cc in rw (e, f)
-      by missing h = let z : ◌≡◌ {A = ℕ} 0 1 = cc in absurd (omega arith)
-
-  pub message_missing : f ≡ Missing → r ≡ record { code = 0; from = 1; start = length page; len = 0 } → r ≡ part_of 0 (of_page page (line_of k 0 0 page))
-  unfolding of_page
-  message_missing e q = q ∙ by (line_of k 0 0 page) (sym e ∙ h)
-    where
-      by : (l : Line) → Missing ≡ found_of l → record { code = 0; from = 1; start = length page; len = 0 } ≡ part_of 0 (of_page page l)
-      by (line b m) h = let z : ◌≡◌ {A = ℕ} 0 1 = cc in absurd (omega arith)
-      by missing h = refl
+pub message_at : (page : List ℕ) (l : Line) → given_at (Page (unwrap_or (found_of l) (record { start = length page; size = 0 }))) ≡ of_page page l
+unfolding of_page
+message_at page (line at n) = refl
+message_at page missing = refl

@@ -2,23 +2,27 @@
 #![tactic(auto)]
 
 ghost use Rattle.std.specs.Prelude.{◌≡◌, ◌-◌, ◌≤◌};
+ghost use Rattle.std.specs.List.{position};
 ghost use Rattle.image.specs.Program.{part};
 ghost use Rattle.machine.specs.Calls.{text, bytes, get_global, get_builtin, line_of, of_page};
 ghost use Rattle.form.specs.Entry.{entry};
-ghost use Rattle.asks.specs.Asks.{cell_of, part_of, got_by, part_by};
-ghost use Rattle.readings.specs.Readings.{found_of, chosen, reading, texting, byting};
+ghost use Rattle.asks.specs.Asks.{cell_of, got_by, part_by};
+ghost use Rattle.asks.specs.Entries.{says};
+ghost use Rattle.readings.specs.Readings.{is_feed, found_of, given_at, spotted, part_said, chosen, reading, texting, byting};
 
-use asks::{Entry, Got, Named, Part};
+use asks::{Got, Part, Place};
 use cells::Cell;
+use refusals::Refusal;
 
-// A line of the page of messages: where it starts, and its length.
+// A part of the image, or of the page of messages.
 #[derive(Clone, Copy)]
-pub enum Found {
-    At(usize, usize),
-    Missing,
+enum Spot {
+    Image(Place),
+    Page(Place),
 }
 
 // The value in cell `first + number` of the state block.
+#[tactic(auto, using(crate::specs::ReadingLaws::reading_not))]
 fn get_value(
     image: &[u8],
     state: &[u8],
@@ -26,107 +30,115 @@ fn get_value(
     store: &[u8],
     first: usize,
     number: u32,
-) -> Got
+) -> Result<Cell, Refusal>
     requires { first ≤ 260 }
-    ensures { result ≡ reading first number state.now (entry image.now state.now live.now store.now) }
+    ensures { says result ≡ reading first number state.now (entry image.now state.now live.now store.now) }
 {
-    match asks::entered(image, state, live, store) {
-        Entry::Refused(n) => asks::answered(n, asks::null()),
-        Entry::InForm => {
-            if number >= 256 {
-                return asks::answered(5, asks::null());
-            }
-            asks::answered(0, cells::get(state, first + number as usize))
-        }
+    asks::entered(image, state, live, store)?;
+    if number >= 256 {
+        return Err(Refusal::BadValue);
     }
+    Ok(cells::get(state, first + number as usize))
 }
 
 pub fn get_global(image: &[u8], state: &[u8], live: &[u8], store: &[u8], number: u32) -> Got
     ensures { result ≡ got_by (get_global number) image.now state.now live.now store.now }
 {
-    get_value(image, state, live, store, 4, number)
+    asks::answered(get_value(image, state, live, store, 4, number))
 }
 
 pub fn get_builtin(image: &[u8], state: &[u8], live: &[u8], store: &[u8], number: u32) -> Got
     ensures { result ≡ got_by (get_builtin number) image.now state.now live.now store.now }
 {
-    get_value(image, state, live, store, 260, number)
+    asks::answered(get_value(image, state, live, store, 260, number))
 }
 
-fn placed(code: u32, from: u32, start: usize, len: usize) -> Part
-    ensures { result ≡ record { code = code; from = from; start = start; len = len } }
+// A part as the host gets it, or no part and why.
+fn answered(found: Result<Spot, Refusal>) -> Part
+    ensures { result ≡ part_said (spotted found) }
 {
+    let none = Place { start: 0, size: 0 };
+    let (code, from, place) = match found {
+        Ok(Spot::Image(place)) => (0, 0, place),
+        Ok(Spot::Page(place)) => (0, 1, place),
+        Err(refusal) => (refusal.number(), 0, none),
+    };
     Part {
         code,
         from,
-        start: start as u64,
-        len: len as u64,
+        start: place.start as u64,
+        len: place.size as u64,
     }
+}
+
+// How many bytes stand before the first LF.
+fn before_feed(s: &[u8]) -> Option<usize>
+    ensures { result ≡ position is_feed s.now }
+{
+    s.iter().position(|b| *b == b'\n')
 }
 
 // Line k + 1 of a page: it ends in an LF, and one that does not is missing.
-fn line_of(page: &[u8], k: usize) -> Found
+fn line_of(page: &[u8], k: usize) -> Option<Place>
     ensures { result ≡ found_of (line_of k 0 0 page.now) }
 {
-    let mut left = k;
     let mut start = 0;
-    let mut i = 0;
-    while i < page.len() {
-        if page[i] == 10 {
-            if left == 0 {
-                return Found::At(start, i - start);
-            }
-            left -= 1;
-            start = i + 1;
-        }
-        i += 1;
+    for _ in 0..k {
+        start += before_feed(&page[start..])? + 1;
     }
-    Found::Missing
+    let size = before_feed(&page[start..])?;
+    Some(Place { start, size })
 }
 
 // Where a message stands in the page; a missing one is empty, at its end.
-fn message_part(page: &[u8], number: u32) -> Part
+fn message(page: &[u8], number: u32) -> Place
     requires { 1 ≤ number }
-    ensures { result ≡ part_of 0 (of_page page.now (line_of (number - 1) 0 0 page.now)) }
+    ensures { given_at (Spot.Page result) ≡ of_page page.now (line_of (number - 1) 0 0 page.now) }
 {
-    match line_of(page, number as usize - 1) {
-        Found::At(start, len) => placed(0, 1, start, len),
-        Found::Missing => placed(0, 1, page.len(), 0),
-    }
+    let end = Place {
+        start: page.len(),
+        size: 0,
+    };
+    line_of(page, number as usize - 1).unwrap_or(end)
 }
 
 // Where the text of a Str stands.
-fn text_part(image: &[u8], state: &[u8], live: &[u8], store: &[u8], page: &[u8], v: Cell) -> Part
-    ensures { result ≡ texting page.now v state.now store.now (entry image.now state.now live.now store.now) }
+#[tactic(auto, using(crate::specs::ReadingLaws::text_not, crate::specs::ReadingLaws::message_low))]
+fn text_spot(
+    image: &[u8],
+    state: &[u8],
+    live: &[u8],
+    store: &[u8],
+    page: &[u8],
+    v: Cell,
+) -> Result<Spot, Refusal>
+    ensures { spotted result ≡ texting page.now v state.now store.now (entry image.now state.now live.now store.now) }
 {
-    match asks::entered_with(image, state, live, store, v) {
-        Named::NotEntered(n) => placed(n, 0, 0, 0),
-        Named::Unknown => placed(5, 0, 0, 0),
-        Named::Known(place, size) => {
-            let tag = v.tag;
-            match tag {
-                4 => placed(0, 0, place, size),
-                20 => message_part(page, v.number),
-                _ => placed(5, 0, 0, 0),
-            }
-        }
+    let place = asks::entered_with(image, state, live, store, v)?;
+    let tag = v.tag;
+    match tag {
+        4 => Ok(Spot::Image(place)),
+        20 => Ok(Spot::Page(message(page, v.number))),
+        _ => Err(Refusal::BadValue),
     }
 }
 
 // Where the bytes of a Bytes stand.
-fn bytes_part(image: &[u8], state: &[u8], live: &[u8], store: &[u8], v: Cell) -> Part
-    ensures { result ≡ byting v state.now store.now (entry image.now state.now live.now store.now) }
+#[tactic(auto, using(crate::specs::ReadingLaws::bytes_not))]
+fn bytes_spot(
+    image: &[u8],
+    state: &[u8],
+    live: &[u8],
+    store: &[u8],
+    v: Cell,
+) -> Result<Spot, Refusal>
+    ensures { spotted result ≡ byting v state.now store.now (entry image.now state.now live.now store.now) }
 {
-    match asks::entered_with(image, state, live, store, v) {
-        Named::NotEntered(n) => placed(n, 0, 0, 0),
-        Named::Unknown => placed(5, 0, 0, 0),
-        Named::Known(place, size) => {
-            if v.tag == 5 {
-                return placed(0, 0, place, size);
-            }
-            placed(5, 0, 0, 0)
-        }
+    let place = asks::entered_with(image, state, live, store, v)?;
+    if v.tag == 5 {
+        return Ok(Spot::Image(place));
     }
+    Err(Refusal::BadValue)
 }
 
 pub fn text(
@@ -140,23 +152,21 @@ pub fn text(
 ) -> Part
     ensures { result ≡ part_by (text page.now (cell_of low high)) image.now state.now live.now store.now }
 {
-    text_part(image, state, live, store, page, asks::cell_of(low, high))
+    answered(text_spot(image, state, live, store, page, asks::cell_of(low, high)))
 }
 
 pub fn bytes(image: &[u8], state: &[u8], live: &[u8], store: &[u8], low: u64, high: u64) -> Part
     ensures { result ≡ part_by (bytes (cell_of low high)) image.now state.now live.now store.now }
 {
-    bytes_part(image, state, live, store, asks::cell_of(low, high))
+    answered(bytes_spot(image, state, live, store, asks::cell_of(low, high)))
 }
 
 // The text that an answer of `lucia_text` names: a part of the image or of the page.
 pub fn text_of<'a>(image: &'a [u8], page: &'a [u8], at: Part) -> &'a [u8]
     ensures { result.now ≡ chosen image.now page.now at }
 {
-    if at.from == 0 {
-        return program::part(image, at.start as usize, at.len as usize);
-    }
-    program::part(page, at.start as usize, at.len as usize)
+    let source = if at.from == 0 { image } else { page };
+    program::part(source, at.start as usize, at.len as usize)
 }
 
 // The bytes that an answer of `lucia_bytes` names: a part of the image.

@@ -1,5 +1,5 @@
 -- The kinds of an answer: one law for each return of `with_none` and `return_of`.
-use Rattle.std.specs.Prelude.{◌≡◌, ℕ, ◌+◌, ◌%◌}
+use Rattle.std.specs.Prelude.{◌≡◌, ℕ, ◌+◌, ◌%◌, Result, Ok, Err}
 use Rattle.std.proofs.Math.Path.{refl}
 use Rattle.std.proofs.Common.{sym, ap, ◌∙◌, arith, length-append}
 use mathlib.Core.List.{List, [], ◌∷◌, ◌++◌}
@@ -14,23 +14,23 @@ use Rattle.requests.specs.Sent.{unused, kind_of, return_of}
 use Rattle.replies.specs.Replied.{return_with, asks_for}
 use Rattle.replies.specs.Pieces.{Unused}
 use Rattle.replies.specs.declared.CallbackReturn.{CallbackReturn}
-use Rattle.replies.specs.declared.Reply.{Reply}
-use Rattle.replies.specs.declared.Reply.TheVariants.{Malformed, Returns}
+use Rattle.refusals.specs.declared.Refusal.{Refusal}
+use Rattle.refusals.specs.declared.Refusal.TheVariants.{BadValue}
 
 module _ {n : ℕ} {r : CallbackReturn} where
-  pub none_unused : n ≡ 0 → Unused n r (Returns r)
+  pub none_unused : n ≡ 0 → Unused n r (Ok r)
   unfolding unused
   none_unused e = record { is = λ vs args handlers l. by vs args handlers (l ∙ e) }
     where
-      by : (vs : List Cell) (args handlers : List ℕ) → length vs ≡ 0 → asks_for (Returns r) args handlers ≡ unused vs (return_with r (cells args) (cells handlers))
+      by : (vs : List Cell) (args handlers : List ℕ) → length vs ≡ 0 → asks_for (Ok r) args handlers ≡ unused vs (return_with r (cells args) (cells handlers))
       by [] args handlers l = refl
       by (v ∷ vs) args handlers l = absurd (omega arith)
 
-  pub some_unused : (n ≡ 0 → ⊥) → Unused n r Malformed
+  pub some_unused : (n ≡ 0 → ⊥) → Unused n r (Err BadValue)
   unfolding unused
   some_unused ne = record { is = λ vs args handlers l. by vs args handlers (λ e. ne (sym l ∙ e)) }
     where
-      by : (vs : List Cell) (args handlers : List ℕ) → (length vs ≡ 0 → ⊥) → asks_for Malformed args handlers ≡ unused vs (return_with r (cells args) (cells handlers))
+      by : (vs : List Cell) (args handlers : List ℕ) → (length vs ≡ 0 → ⊥) → asks_for (Err BadValue) args handlers ≡ unused vs (return_with r (cells args) (cells handlers))
       by [] args handlers l = absurd (l refl)
       by (v ∷ vs) args handlers l = refl
 
@@ -57,12 +57,12 @@ module _ (kind : ℕ) (v : Cell) (args handlers : List ℕ) where
       kind_call e = at_kind 0 e
 
       -- kinds 1 to 3 use no handlers
-      pub kind_handlers : (k : ℕ) {n : ℕ} {r : CallbackReturn} {x : Reply} → kind ≡ k → n ≡ room handlers → Unused n r x
+      pub kind_handlers : (k : ℕ) {n : ℕ} {r : CallbackReturn} {x : Result CallbackReturn Refusal} → kind ≡ k → n ≡ room handlers → Unused n r x
           → kind_of k v (cells args) (cells handlers) ≡ unused (cells handlers) (return_with r (cells args) (cells handlers)) → asks_for x args handlers ≡ return_of kind v args handlers
       kind_handlers k e l u q = u.is (cells handlers) args handlers (length_cells handlers ∙ sym l) ∙ sym q ∙ at_kind k e
 
       -- kinds 4 to 6 use neither arguments nor handlers
-      pub kind_neither : (k : ℕ) {m n : ℕ} {r : CallbackReturn} {x : Reply} → kind ≡ k → n ≡ room handlers → m ≡ room args → Unused (m + n) r x
+      pub kind_neither : (k : ℕ) {m n : ℕ} {r : CallbackReturn} {x : Result CallbackReturn Refusal} → kind ≡ k → n ≡ room handlers → m ≡ room args → Unused (m + n) r x
           → kind_of k v (cells args) (cells handlers) ≡ unused (cells args ++ cells handlers) (return_with r (cells args) (cells handlers)) → asks_for x args handlers ≡ return_of kind v args handlers
       kind_neither k {m} {n} e l g u q =
           let z : length (cells args ++ cells handlers) ≡ m + n = omega (arith, length-append (cells args) (cells handlers), length_cells args, length_cells handlers, l, g) in

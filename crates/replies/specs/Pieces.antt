@@ -1,5 +1,5 @@
 -- What the private functions promise.
-use Rattle.std.specs.Prelude.{◌≡◌, List, [], Bool, ℕ, length}
+use Rattle.std.specs.Prelude.{◌≡◌, List, [], Bool, ℕ, length, Result}
 use Rattle.cells.specs.Cells.{cells}
 use Rattle.cells.specs.declared.Cell.{Cell}
 use Rattle.machine.specs.Values.{Program}
@@ -10,10 +10,10 @@ use Rattle.requests.specs.Sent.{unused}
 use Rattle.requests.specs.Returned.{performed_fits}
 use Rattle.replies.specs.Replied.{return_with, asks_for}
 use Rattle.replies.specs.declared.CallbackReturn.{CallbackReturn}
-use Rattle.replies.specs.declared.Reply.{Reply}
+use Rattle.refusals.specs.declared.Refusal.{Refusal}
 
 -- x is the answer r, or refused, where any of n values are sent that it does not use
-pub record Unused (n : ℕ) (r : CallbackReturn) (x : Reply) : Type 0 where
+pub record Unused (n : ℕ) (r : CallbackReturn) (x : Result CallbackReturn Refusal) : Type 0 where
   pub is : (vs : List Cell) (args handlers : List ℕ) → length vs ≡ n → asks_for x args handlers ≡ unused vs (return_with r (cells args) (cells handlers))
 
 -- b says whether an answered perform passes, for every store that is held

@@ -1,5 +1,5 @@
 -- What an answer comes to as a plan: the needs of the calls, and one law for each return of `plan_of`.
-use Rattle.std.specs.Prelude.{◌≡◌, List, true, ◌⊎◌, ℕ, length}
+use Rattle.std.specs.Prelude.{◌≡◌, List, true, ◌⊎◌, ℕ, length, None}
 use Rattle.std.proofs.Math.Path.{refl}
 use Rattle.std.proofs.Common.{sym, ap, subst, ◌∙◌, inl, inr}
 use Rattle.cells.specs.Cells.{room, cells}
@@ -18,12 +18,13 @@ use Rattle.plan.specs.declared.Counts.{Counts}
 use Rattle.plan.specs.declared.Error.{Error}
 use Rattle.plan.specs.declared.Plan.{Plan}
 use Rattle.calls.specs.Called.{Callable, Performs, ThrowsError, CallsFunction, ReturnsValue}
-use Rattle.calls.specs.declared.Cause.TheVariants.{Performed}
 use Rattle.requests.specs.Returned.{return_fits, done_with}
 use Rattle.replies.specs.Replied.{return_with, Plannable, PlansReturn}
 use Rattle.replies.specs.declared.CallbackReturn.{CallbackReturn}
 use Rattle.replies.specs.declared.CallbackReturn.TheVariants.{Call, Perform, TailCall, TailPerform, ReturnValue, Panic}
 use Rattle.replies.specs.declared.CallbackReturn.TheVariants as variants
+use Rattle.plan.specs.declared.ErrorKind.TheVariants as kinds
+use Rattle.plan.specs.Kinds.{kind_of}
 
 held_count : {P : Program} {m : M} {c : Counts} {L S : List Cell} {starts : List ℕ} {frames : ℕ} → Held P m c L S starts → c.frames ≡ frames → length m.frames ≡ frames
 held_count h e = sym (ap (λ (x : Counts). x.frames) h.counts) ∙ e
@@ -66,17 +67,17 @@ module _ {P : Program} {frames : ℕ} {r : CallbackReturn} {args L S : List Cell
       plans_throw : (y : v.Error) → x ≡ error_of y → ((m : M) (handlers : List Cell) → done_with P (return_with r args handlers) m ≡ throw_error 1 P y m) → PlansReturn P frames r args L S starts plan
       plans_throw y q d = record { carries = λ m c handlers e h t. rw (d m handlers) (w.carries m args y (held_count h e) h.under q) }
 
-      pub plans_error : {v : Cell} → r ≡ variants.Error v → x ≡ record { kind = 9; value = v; second = 0 } → PlansReturn P frames r args L S starts plan
-      unfolding done_with error_shown
+      pub plans_error : {v : Cell} → r ≡ variants.Error v → x ≡ record { kind = kinds.Error; value = v; second = 0 } → PlansReturn P frames r args L S starts plan
+      unfolding done_with error_shown kind_of
       plans_error {v} k q = plans_throw (lucia_error v) q (λ m handlers. rw k refl)
 
-      pub plans_panic : {v : Cell} → r ≡ Panic v → x ≡ record { kind = 10; value = v; second = 0 } → PlansReturn P frames r args L S starts plan
-      unfolding done_with error_shown
+      pub plans_panic : {v : Cell} → r ≡ Panic v → x ≡ record { kind = kinds.Panic; value = v; second = 0 } → PlansReturn P frames r args L S starts plan
+      unfolding done_with error_shown kind_of
       plans_panic {v} k q = plans_throw (lucia_panic v) q (λ m handlers. rw k refl)
 
 -- ---- A perform, with all that was sent
 pub plans_perform : {P : Program} {frames : ℕ} {r : CallbackReturn} (args : List ℕ) {L S : List Cell} {starts : List ℕ} {plan : Plan} {e : Cell} {n : ℕ} → (r ≡ Perform e) ⊎ (r ≡ TailPerform e) → n ≡ room args
-    → Performs P frames 1 e n Performed L starts plan → PlansReturn P frames r (cells args) L S starts plan
+    → Performs P frames 1 e n None L starts plan → PlansReturn P frames r (cells args) L S starts plan
 unfolding done_with perform_effect
 plans_perform args {e = e} (inl q) l w = record { carries = λ m c handlers i h t. rw q (w.carries m (cells args) (cells args) (unhandled e (cells args)) (held_count h i) h.under (length_cells args ∙ sym l) (refl, refl)) }
 plans_perform args {e = e} (inr q) l w = record { carries = λ m c handlers i h t. rw q (w.carries m (cells args) (cells args) (unhandled e (cells args)) (held_count h i) h.under (length_cells args ∙ sym l) (refl, refl)) }

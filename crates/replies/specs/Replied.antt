@@ -1,5 +1,5 @@
 -- What the host answers, as the code has it and as the machine's definition does.
-use Rattle.std.specs.Prelude.{◌≡◌, List, [], Bool, true, ℕ, ◌≤◌, length}
+use Rattle.std.specs.Prelude.{◌≡◌, List, [], Bool, true, ℕ, ◌≤◌, length, Result, Ok, Err}
 use Rattle.cells.specs.Cells.{cells}
 use Rattle.cells.specs.declared.Cell.{Cell}
 use Rattle.image.specs.Records.{Answer, refused, accepted}
@@ -15,8 +15,8 @@ use Rattle.plan.specs.declared.Plan.{Plan}
 use Rattle.requests.specs.Returned.{return_fits, done_with}
 use Rattle.replies.specs.declared.CallbackReturn.{CallbackReturn}
 use Rattle.replies.specs.declared.CallbackReturn.TheVariants.{Call, Perform, TailCall, TailPerform, ReturnValue, Error, Panic}
-use Rattle.replies.specs.declared.Reply.{Reply}
-use Rattle.replies.specs.declared.Reply.TheVariants.{Malformed, Returns}
+use Rattle.refusals.specs.Refusals.{number}
+use Rattle.refusals.specs.declared.Refusal.{Refusal}
 
 -- each case of the code's enum, with the arguments and handlers that came with it
 abbrev pub return_with : CallbackReturn → List Cell → List Cell → machine.CallbackReturn
@@ -28,9 +28,9 @@ return_with (ReturnValue v) args handlers = machine.return_it v
 return_with (Error v) args handlers = machine.error_with v
 return_with (Panic v) args handlers = machine.panic_with v
 
-abbrev pub asks_for : Reply → List ℕ → List ℕ → Answer machine.CallbackReturn
-asks_for Malformed args handlers = refused 5
-asks_for (Returns r) args handlers = accepted (return_with r (cells args) (cells handlers))
+abbrev pub asks_for : Result CallbackReturn Refusal → List ℕ → List ℕ → Answer machine.CallbackReturn
+asks_for (Err r) args handlers = refused (number r)
+asks_for (Ok r) args handlers = accepted (return_with r (cells args) (cells handlers))
 
 -- b says whether refusal 5 lets it pass, for every store that is held
 pub record ReturnFits (P : Program) (u : ℕ) (r : CallbackReturn) (args handlers : List Cell) (b : Bool) (S : List Cell) : Type 0 where

@@ -5,15 +5,15 @@ ghost use Rattle.std.specs.Prelude.{◌≡◌, ◌≤◌};
 ghost use Rattle.cells.specs.Cells.{room, cells};
 ghost use Rattle.image.specs.Program.{all};
 ghost use Rattle.memory.specs.Tests.{effect_fits};
-ghost use Rattle.scan.specs.Tables.{program_in};
+ghost use Rattle.scan.specs.Tables.{program_of};
 ghost use Rattle.requests.specs.Sent.{return_of};
 ghost use Rattle.replies.specs.Replied.{asks_for, ReturnFits, Plannable, PlansReturn};
 ghost use Rattle.replies.specs.Pieces.{Unused, PerformedFits};
 ghost use Rattle.replies.specs.declared.CallbackReturn.TheVariants.{Call};
 
-use calls::Cause;
 use cells::Cell;
-use plan::{Error, Plan};
+use plan::{Error, ErrorKind, Plan};
+use refusals::Refusal;
 
 // `CallbackReturn`, or an error with a value.
 #[derive(Clone, Copy)]
@@ -27,80 +27,65 @@ pub enum CallbackReturn {
     Panic(Cell),
 }
 
-// What is sent as an answer.
-#[derive(Clone, Copy)]
-pub enum Reply {
-    Malformed,
-    Returns(CallbackReturn),
-}
-
 // What an answer does not use, so many values, must be empty.
-fn with_none(n: usize, r: CallbackReturn) -> Reply
+#[tactic(auto, using(crate::specs::KindLaws::none_unused, crate::specs::KindLaws::some_unused))]
+fn with_none(n: usize, r: CallbackReturn) -> Result<CallbackReturn, Refusal>
     ensures { Unused n r result }
 {
     if n != 0 {
-        return Reply::Malformed;
+        return Err(Refusal::BadValue);
     }
-    Reply::Returns(r)
+    Ok(r)
 }
 
 // The kinds of an answer; what one does not use must be empty.
-pub fn return_of(kind: u32, v: Cell, args: &[u8], handlers: &[u8]) -> Reply
+pub fn return_of(
+    kind: u32,
+    v: Cell,
+    args: &[u8],
+    handlers: &[u8],
+) -> Result<CallbackReturn, Refusal>
     ensures { asks_for result args.now handlers.now ≡ return_of kind v args.now handlers.now }
 {
     if args.len() % 16 != 0 {
-        return Reply::Malformed;
+        return Err(Refusal::BadValue);
     }
     if handlers.len() % 16 != 0 {
-        return Reply::Malformed;
+        return Err(Refusal::BadValue);
     }
     let n = cells::room(handlers);
     let all = cells::room(args) + n;
     match kind {
-        0 => Reply::Returns(CallbackReturn::Call(v)),
+        0 => Ok(CallbackReturn::Call(v)),
         1 => with_none(n, CallbackReturn::Perform(v)),
         2 => with_none(n, CallbackReturn::TailCall(v)),
         3 => with_none(n, CallbackReturn::TailPerform(v)),
         4 => with_none(all, CallbackReturn::ReturnValue(v)),
         5 => with_none(all, CallbackReturn::Error(v)),
         6 => with_none(all, CallbackReturn::Panic(v)),
-        _ => Reply::Malformed,
+        _ => Err(Refusal::BadValue),
     }
 }
 
 // Are all cells of x effects?
-fn effects_fit(
-    image: &[u8],
-    rows: &[u32],
-    constants: &[u32],
-    inner: &[u32],
-    codes: usize,
-    store: &[u8],
-    used: usize,
-    x: &[u8],
-) -> bool
+fn effects_fit(program: &lookups::Program, store: &[u8], used: usize, x: &[u8]) -> bool
     requires { used ≤ room store.now }
-    ensures { result ≡ all (effect_fits (program_in image.now rows.now constants.now inner.now codes) (cells store.now) used) (cells x.now) }
+    ensures { result ≡ all (effect_fits (program_of program.now) (cells store.now) used) (cells x.now) }
 {
     let n = cells::room(x);
-    let mut i = 0;
-    while i < n {
+    for i in 0..n {
         let e = cells::get(x, i);
-        if !scan::effect_fits(image, rows, constants, inner, codes, store, used, e) {
+        if !scan::effect_fits(program, store, used, e) {
             return false;
         }
-        i += 1;
     }
     true
 }
 
 // An answered call: the tests of a call, and handlers that are effects.
+#[tactic(auto, using(crate::specs::FitLaws::handlers_many, crate::specs::FitLaws::called_not, crate::specs::FitLaws::called_with))]
 fn call_fits(
-    image: &[u8],
-    rows: &[u32],
-    constants: &[u32],
-    inner: &[u32],
-    codes: usize,
+    program: &lookups::Program,
     store: &[u8],
     used: usize,
     f: Cell,
@@ -108,54 +93,38 @@ fn call_fits(
     handlers: &[u8],
 ) -> bool
     requires { used ≤ room store.now }
-    ensures { ReturnFits (program_in image.now rows.now constants.now inner.now codes) used (Call f) (cells args.now) (cells handlers.now) result (cells store.now) }
+    ensures { ReturnFits (program_of program.now) used (Call f) (cells args.now) (cells handlers.now) result (cells store.now) }
 {
     let n = cells::room(handlers);
     if n > 4096 {
         return false;
     }
-    if !requests::called_fits(
-        image, rows, constants, inner, codes, store, used, f, args, n,
-    ) {
+    if !requests::called_fits(program, store, used, f, args, n) {
         return false;
     }
-    effects_fit(image, rows, constants, inner, codes, store, used, handlers)
+    effects_fit(program, store, used, handlers)
 }
 
 // An answered perform: an effect, and at most 4,096 values.
-fn perform_fits(
-    image: &[u8],
-    rows: &[u32],
-    constants: &[u32],
-    inner: &[u32],
-    codes: usize,
-    store: &[u8],
-    used: usize,
-    e: Cell,
-    args: &[u8],
-) -> bool
+#[tactic(auto, using(crate::specs::FitLaws::performed_many, crate::specs::FitLaws::performed_not, crate::specs::FitLaws::performed_with))]
+fn perform_fits(program: &lookups::Program, store: &[u8], used: usize, e: Cell, args: &[u8]) -> bool
     requires { used ≤ room store.now }
-    ensures { PerformedFits (program_in image.now rows.now constants.now inner.now codes) used e (cells args.now) result (cells store.now) }
+    ensures { PerformedFits (program_of program.now) used e (cells args.now) result (cells store.now) }
 {
     let n = cells::room(args);
     if n > 4096 {
         return false;
     }
-    if !scan::effect_fits(image, rows, constants, inner, codes, store, used, e) {
+    if !scan::effect_fits(program, store, used, e) {
         return false;
     }
-    scan::values_fit(
-        image, rows, constants, inner, codes, store, used, args, 0, n,
-    )
+    scan::values_fit(program, store, used, args, 0, n)
 }
 
 // Does what an answer names exist, is a called value a Function and a performed one or a handler an Effect, and are there at most 4,096?
+#[tactic(auto, using(crate::specs::FitLaws::fits_call, crate::specs::FitLaws::fits_tail, crate::specs::FitLaws::fits_perform, crate::specs::FitLaws::fits_value))]
 pub fn fits(
-    image: &[u8],
-    rows: &[u32],
-    constants: &[u32],
-    inner: &[u32],
-    codes: usize,
+    program: &lookups::Program,
     store: &[u8],
     used: usize,
     r: CallbackReturn,
@@ -163,26 +132,22 @@ pub fn fits(
     handlers: &[u8],
 ) -> bool
     requires { used ≤ room store.now }
-    ensures { ReturnFits (program_in image.now rows.now constants.now inner.now codes) used r (cells args.now) (cells handlers.now) result (cells store.now) }
+    ensures { ReturnFits (program_of program.now) used r (cells args.now) (cells handlers.now) result (cells store.now) }
 {
     match r {
-        CallbackReturn::Call(f) => call_fits(
-            image, rows, constants, inner, codes, store, used, f, args, handlers,
-        ),
-        CallbackReturn::TailCall(f) => requests::called_fits(
-            image, rows, constants, inner, codes, store, used, f, args, 0,
-        ),
+        CallbackReturn::Call(f) => call_fits(program, store, used, f, args, handlers),
+        CallbackReturn::TailCall(f) => requests::called_fits(program, store, used, f, args, 0),
         CallbackReturn::Perform(e) | CallbackReturn::TailPerform(e) => {
-            perform_fits(image, rows, constants, inner, codes, store, used, e, args)
+            perform_fits(program, store, used, e, args)
         }
         CallbackReturn::ReturnValue(v) | CallbackReturn::Error(v) | CallbackReturn::Panic(v) => {
-            scan::value_fits(image, rows, constants, inner, codes, store, used, v)
+            scan::value_fits(program, store, used, v)
         }
     }
 }
 
-// The script's own error: kind 9 for Error, 10 for Panic.
-fn own_error(kind: u32, v: Cell) -> Error
+// The script's own error: Error or Panic.
+fn own_error(kind: ErrorKind, v: Cell) -> Error
     ensures { result ≡ record { kind = kind; value = v; second = 0 } }
 {
     Error {
@@ -194,11 +159,7 @@ fn own_error(kind: u32, v: Cell) -> Error
 
 // What an answer comes to over the frames left, of which there are so many.
 pub fn plan_of(
-    image: &[u8],
-    rows: &[u32],
-    constants: &[u32],
-    inner: &[u32],
-    codes: usize,
+    program: &lookups::Program,
     live: &[u8],
     store: &[u8],
     starts: &[u32],
@@ -206,51 +167,39 @@ pub fn plan_of(
     r: CallbackReturn,
     args: &[u8],
 ) -> Plan
-    requires { Plannable (program_in image.now rows.now constants.now inner.now codes) frames r (cells args.now) (cells live.now) (cells store.now) starts.now }
-    ensures { PlansReturn (program_in image.now rows.now constants.now inner.now codes) frames r (cells args.now) (cells live.now) (cells store.now) starts.now result }
+    requires { Plannable (program_of program.now) frames r (cells args.now) (cells live.now) (cells store.now) starts.now }
+    ensures { PlansReturn (program_of program.now) frames r (cells args.now) (cells live.now) (cells store.now) starts.now result }
 {
     match r {
         CallbackReturn::Call(f) | CallbackReturn::TailCall(f) => calls::call_function(
-            image, rows, constants, inner, codes, live, store, starts, frames, f, args,
+            program, live, store, starts, frames, f, args,
         ),
         CallbackReturn::Perform(e) | CallbackReturn::TailPerform(e) => calls::perform_effect_with(
-            image,
-            rows,
-            constants,
-            inner,
-            codes,
+            program,
             live,
             starts,
             frames,
             1,
             e,
             cells::room(args),
-            Cause::Performed,
+            None,
         ),
         CallbackReturn::ReturnValue(v) => calls::return_value(frames, v),
         CallbackReturn::Error(v) => calls::throw_error(
-            image,
-            rows,
-            constants,
-            inner,
-            codes,
+            program,
             live,
             starts,
             frames,
             1,
-            own_error(9, v),
+            own_error(ErrorKind::Error, v),
         ),
         CallbackReturn::Panic(v) => calls::throw_error(
-            image,
-            rows,
-            constants,
-            inner,
-            codes,
+            program,
             live,
             starts,
             frames,
             1,
-            own_error(10, v),
+            own_error(ErrorKind::Panic, v),
         ),
     }
 }

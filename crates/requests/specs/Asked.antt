@@ -1,5 +1,5 @@
 -- What a request of the host does once the call is entered, by the machine's definition of it.
-use Rattle.std.specs.Prelude.{◌≡◌, List, [], Bool, true, false, ℕ, ◌%◌, ◌<◌, ◌≤◌, length, drop}
+use Rattle.std.specs.Prelude.{◌≡◌, List, [], Bool, true, false, ℕ, ◌%◌, ◌<◌, ◌≤◌, length, drop, Result, Ok, Err, IfOk, OnOk, OnErr}
 use Rattle.cells.specs.Cells.{room, cells}
 use Rattle.cells.specs.declared.Cell.{Cell}
 use Rattle.image.specs.Fine.{Accepted}
@@ -14,7 +14,8 @@ use Rattle.plan.specs.Plans.{Carries}
 use Rattle.plan.specs.declared.Counts.{Counts}
 use Rattle.plan.specs.declared.Plan.{Plan}
 use Rattle.counts.specs.Counted.{refusal_by}
-use Rattle.requests.specs.declared.Finished.{Finished}
+use Rattle.refusals.specs.Refusals.{number}
+use Rattle.refusals.specs.declared.Refusal.{Refusal}
 use Rattle.requests.specs.Sent.{Sent, sent_outcome}
 use Rattle.requests.specs.Returned.{called_fits}
 
@@ -59,18 +60,23 @@ pub record Finishable (plan : Plan) (args : List Cell) (c : Counts) (most : ℕ)
   pub few : length args < 4294967296
   pub block : length state ≡ 8256
 
-pub record FinishLeaves (z : Sizes) (m' : M) (r : Finished) (state' live' store' : List ℕ) : Type 0 where
-  pub answer : r.refusal ≡ refusal_by z (counts_of m')
-  pub holds : r.refusal ≡ 0 → Holds (world m' false 64) (cells state') (cells live') (cells store')
-  pub used : r.refusal ≡ 0 → r.live ≡ (counts_of m').live
+-- the number of what was finished: 0 for what is done
+abbrev pub finish_number : Result ℕ Refusal → ℕ
+finish_number (Ok n) = 0
+finish_number (Err r) = number r
+
+pub record FinishLeaves (z : Sizes) (m' : M) (r : Result ℕ Refusal) (state' live' store' : List ℕ) : Type 0 where
+  pub answer : finish_number r ≡ refusal_by z (counts_of m')
+  pub holds : OnOk r (Holds (world m' false 64) (cells state') (cells live') (cells store'))
+  pub used : IfOk r (λ n. n ≡ (counts_of m').live)
 
 -- every machine that rested and that the plan is for is what the plan makes of it, or is refused and every byte is left
-pub record Finishes (plan : Plan) (args : List Cell) (c : Counts) (most : ℕ) (r : Finished) (state live store starts state' live' store' : List ℕ) : Type 0 where
+pub record Finishes (plan : Plan) (args : List Cell) (c : Counts) (most : ℕ) (r : Result ℕ Refusal) (state live store starts state' live' store' : List ℕ) : Type 0 where
   pub leaves : (P : Program) (m m' : M) → Carries P plan args m m' → Rests m c (cells state) (cells live) (cells store) starts → Held P m c (cells live) (cells store) starts
       → FinishLeaves (record { live = most; store = room store }) m' r state' live' store'
   pub appends : (P : Program) (m m' : M) → Carries P plan args m m' → Rests m c (cells state) (cells live) (cells store) starts → Held P m c (cells live) (cells store) starts
-      → r.refusal ≡ 0 → Appends c.store (used m'.store) store store'
-  pub refused : (r.refusal ≡ 0 → ⊥) → (state' ≡ state) × (live' ≡ live) × (store' ≡ store)
+      → OnOk r (Appends c.store (used m'.store) store store')
+  pub refused : OnErr r ((state' ≡ state) × (live' ≡ live) × (store' ≡ store))
   pub same_state : Same state state'
   pub same_live : Same live live'
   pub same_store : Same store store'

@@ -4,7 +4,7 @@ use Rattle.std.proofs.Common.{sym, ap, ◌∙◌, append_assoc, arith}
 use Rattle.cells.specs.Cells.{cells}
 use Rattle.cells.specs.declared.Cell.{Cell}
 use Rattle.machine.specs.Values.{Program, Error, call_arguments, un_operator, bin_operator, meta_un_operator, meta_bin_operator, zero_divisor, lucia_error, lucia_panic}
-use Rattle.machine.specs.Machine.{Result, running, returned, failed, unhandled, M, result_cost, used}
+use Rattle.machine.specs.Machine.{Result, running, returned, failed, unhandled, M, result_cost}
 use Rattle.machine.specs.Calls.{stops, World, world}
 use Rattle.machine.specs.Form.{TurnFits, top_of, Top, of_lucia, of_host, of_effect, of_none}
 use Rattle.machine.proofs.FormLaws.{MachineFits}

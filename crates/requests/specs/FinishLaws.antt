@@ -1,5 +1,5 @@
 -- A plan for a machine at rest: from the counts that it leaves to its refusal, or to what memory holds then.
-use Rattle.std.specs.Prelude.{◌≡◌, refl, List, Bool, true, false, ℕ, zero, suc, ◌≤◌, length, drop, eqb, ltb}
+use Rattle.std.specs.Prelude.{◌≡◌, refl, List, Bool, true, false, ℕ, ◌≤◌, length, drop, ltb, Result, Ok, Err, OnOk, OnErr}
 use Rattle.std.proofs.Common.{sym, ap, subst, ◌∙◌, arith, ne_eqb, ltb-false}
 use Rattle.cells.specs.Cells.{room, cells}
 use Rattle.cells.specs.CellsLaws.{length_cells}
@@ -8,7 +8,7 @@ use Rattle.image.specs.Records.{if?}
 use Rattle.machine.specs.Values.{Program}
 use Rattle.machine.specs.Machine.{M, used}
 use Rattle.machine.specs.Opcodes.{Action}
-use Rattle.machine.specs.Calls.{Sizes, handlers_left, does, stops, judge}
+use Rattle.machine.specs.Calls.{Sizes, handlers_left, judge}
 use Rattle.moves.specs.Frames.{Live}
 use Rattle.plan.specs.Rest.{counts_of, Held, Rests}
 use Rattle.plan.specs.Plans.{Carries}
@@ -18,8 +18,9 @@ use Rattle.plan.specs.declared.Plan.TheVariants.{Starts, Resumes, Handles, Catch
 use Rattle.counts.specs.Counted.{refusal_by, Ready, Countable}
 use Rattle.counts.specs.Judged.{judged}
 use Rattle.actions.specs.Acted.{Roomy, Carriable, CarriesOut}
-use Rattle.requests.specs.declared.Finished.{Finished}
-use Rattle.requests.specs.Asked.{Leavable, LeavesWorld, Finishable, FinishLeaves, Finishes, Leaves}
+use Rattle.refusals.specs.Refusals.{number}
+use Rattle.refusals.specs.declared.Refusal.{Refusal}
+use Rattle.requests.specs.Asked.{Leavable, LeavesWorld, Finishable, FinishLeaves, Finishes, Leaves, finish_number}
 use Rattle.requests.specs.AskedLaws.{rests_holds}
 
 ready_of : (plan : Plan) (m : M) (L : List Cell) → Live m.frames L → Ready plan m L
@@ -78,11 +79,11 @@ module _ (args : List ℕ) {plan : Plan} {c : Counts} {most : ℕ} {state live s
       number_is : no ≡ refusal_by (record { live = most; store = room store }) (counts_of m')
       number_is = q ∙ λ j. refusal_by (record { live = most; store = t j }) (after_is j)
 
-    pub finish_refused : (no ≡ 0 → ⊥) → Finishes plan (cells args) c most (record { refusal = no; live = after.live }) state live store starts state live store
-    finish_refused ne = record {
-      leaves = λ P m m' a r h. record { answer = number_is m' a r h; holds = λ z. absurd (ne z); used = λ z. absurd (ne z) };
-      appends = λ P m m' a r h z. absurd (ne z);
-      refused = λ _. (refl, refl, refl);
+    pub finish_refused : {x : Refusal} → no ≡ number x → Finishes plan (cells args) c most (Err x) state live store starts state live store
+    finish_refused e = record {
+      leaves = λ P m m' a r h. record { answer = sym e ∙ number_is m' a r h; holds = tt; used = tt };
+      appends = λ P m m' a r h. tt;
+      refused = (refl, refl, refl);
       same_state = record { rest = refl; len = refl };
       same_live = record { rest = refl; len = refl };
       same_store = record { rest = refl; len = refl };
@@ -119,29 +120,30 @@ module _ (args : List ℕ) {plan : Plan} {c : Counts} {most : ℕ} {state live s
         pub leavable : Leavable after mid
         leavable = record { frames = omega (arith, roomy.table); block = o.same_state.len ∙ s.block }
 
-        pub finished : {state' : List ℕ} → LeavesWorld after 64 0 mid state' → Finishes plan (cells args) c most (record { refusal = 0; live = after.live }) state live store starts state' live' store'
+        pub finished : {state' : List ℕ} → LeavesWorld after 64 0 mid state' → Finishes plan (cells args) c most (Ok after.live) state live store starts state' live' store'
         finished {state'} v = record {
           leaves = λ P m m' a r h.
               let x = after_is m' a r h in
               let y = o.rests P m m' a h.running r (roomy_in m' x) in
               record {
                 answer = sym ok ∙ number_is m' a r h;
-                holds = λ _. rests_holds false 64 y (v.shows m' false y.block x refl);
-                used = λ _. ap (λ (n : Counts). n.live) x;
+                holds = rests_holds false 64 y (v.shows m' false y.block x refl);
+                used = ap (λ (n : Counts). n.live) x;
               };
-          appends = λ P m m' a r h _. o.appends P m m' a h.running r (roomy_in m' (after_is m' a r h));
-          refused = λ ne. absurd (ne refl);
+          appends = λ P m m' a r h. o.appends P m m' a h.running r (roomy_in m' (after_is m' a r h));
+          refused = tt;
           same_state = record { rest = v.same.rest ∙ o.same_state.rest; len = v.same.len ∙ o.same_state.len };
           same_live = o.same_live;
           same_store = o.same_store;
         }
 
 -- ---- By the machine's definition, which judges the same
-pub judged_leaves : {z : Sizes} (d : Action) {m' : M} {r : Finished} {state live store state' live' store' : List ℕ} → handlers_left d ≤ 16 → FinishLeaves z m' r state' live' store'
-    → (r.refusal ≡ 0 → drop (used m'.store) (cells store') ≡ drop (used m'.store) (cells store)) → ((r.refusal ≡ 0 → ⊥) → (state' ≡ state) × (live' ≡ live) × (store' ≡ store))
-    → Leaves (judge z d m') r.refusal state live store state' live' store'
-judged_leaves {z} d {m'} {r} {state} {live} {store} {state'} {live'} {store'} few f free kept = rw (judged z d m' few) (by (refusal_by z (counts_of m')) f.answer)
-  where
-    by : (n : ℕ) → r.refusal ≡ n → Leaves (if? (eqb n 0) (does d m') (stops n)) r.refusal state live store state' live' store'
-    by zero e = (e, f.holds e, free e)
-    by (suc n) e = let k = kept (λ x. omega arith) in rw (ne_eqb (suc n) 0 (λ x. omega arith)) (e, k.0, k.1, k.2)
+-- no refusal has the number of what is done
+pub some : (r : Refusal) → number r ≡ 0 → ⊥
+some r = grind arith
+
+pub judged_leaves : (state live store : List ℕ) {z : Sizes} (d : Action) {m' : M} {r : Result ℕ Refusal} {state' live' store' : List ℕ} → handlers_left d ≤ 16 → FinishLeaves z m' r state' live' store'
+    → OnOk r (drop (used m'.store) (cells store') ≡ drop (used m'.store) (cells store)) → OnErr r ((state' ≡ state) × (live' ≡ live) × (store' ≡ store))
+    → Leaves (judge z d m') (finish_number r) state live store state' live' store'
+judged_leaves state live store {z} d {m'} {r = Ok n} few f free kept = rw (judged z d m' few, ← f.answer) (refl, f.holds, free)
+judged_leaves state live store {z} d {m'} {r = Err r} few f free kept = rw (judged z d m' few, ← f.answer, ne_eqb (number r) 0 (some r)) (refl, kept.0, kept.1, kept.2)

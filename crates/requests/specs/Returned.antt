@@ -1,5 +1,5 @@
 -- An answer cut in three: what refusal 5 asks of it, the frames that are left once word and handlers are put in and a tail call's own frame is gone, and what is done to them.
-use Rattle.std.specs.Prelude.{List, [], ◌∷◌, Bool, ℕ, ◌+◌, length, leb}
+use Rattle.std.specs.Prelude.{List, ◌∷◌, Bool, ℕ, ◌+◌, length, leb}
 use Rattle.cells.specs.declared.Cell.{Cell}
 use Rattle.image.specs.Records.{both}
 use Rattle.machine.specs.Values.{Program, is_effect, lucia_error, lucia_panic}

@@ -1,9 +1,11 @@
 -- A start: from the tests to the machine that is called, whose plan is finished.
 use Rattle.std.specs.Prelude.{◌≡◌, Bool, true, false, not, ℕ, ◌+◌, ◌%◌, ◌<◌, ◌≤◌}
+use Rattle.std.specs.Prelude as std
 use Rattle.std.proofs.Math.Path.{refl, sym, subst}
 use Rattle.std.proofs.Common.{ap, ◌∙◌, arith}
 use mathlib.Core.List.{List, [], ◌∷◌}
 use Rattle.std.proofs.Math.ListN.{length}
+use Rattle.std.proofs.lemmas.Result.{on_ok_weaker}
 use borrow.Author.Tests.{not-true, not-false, eq-eqb, ne_eqb, leb-true}
 use Rattle.cells.specs.Cells.{room, cells}
 use Rattle.cells.specs.declared.Cell.{Cell}
@@ -19,10 +21,11 @@ use Rattle.plan.specs.Plans.{Carries}
 use Rattle.plan.specs.declared.Counts.{Counts}
 use Rattle.plan.specs.declared.Plan.{Plan}
 use Rattle.calls.specs.Called.{Callable, CallsFunction}
-use Rattle.requests.specs.declared.Finished.{Finished}
+use Rattle.refusals.specs.Refusals.{number}
+use Rattle.refusals.specs.declared.Refusal.{Refusal}
 use Rattle.requests.specs.Sent.{starting, in_turn, request_of, asking, sent_outcome}
 use Rattle.requests.specs.Returned.{called_fits}
-use Rattle.requests.specs.Asked.{rooms_of, Holding, Entered, Finishable, FinishLeaves, Finishes, CalledFits, Passes, Startable, SentWorld}
+use Rattle.requests.specs.Asked.{rooms_of, Holding, Entered, Finishable, FinishLeaves, Finishes, CalledFits, Passes, Startable, SentWorld, finish_number}
 use Rattle.requests.specs.AskedLaws.{block_of, sent_refused}
 use Rattle.requests.specs.FinishLaws.{judged_leaves}
 
@@ -230,17 +233,24 @@ module _ {P : Program} {u : ℕ} {f : Cell} {args state live store : List ℕ} (
             block = s.entered.block;
           }
 
-      pub begun : {done : Finished} {state' live' store' : List ℕ} → Finishes plan (cells args) (fresh_counts u) most done state live store starts state' live' store'
-          → SentWorld P (starting f args) done.refusal state live store state' live' store'
+      sent_begun : {done : std.Result ℕ Refusal} {state' live' store' : List ℕ} → Finishes plan (cells args) (fresh_counts u) most done state live store starts state' live' store'
+          → SentWorld P (starting f args) (finish_number done) state live store state' live' store'
       unfolding handlers_left top_handlers
-      begun {done} {state'} {live'} {store'} o = record {
+      sent_begun {done} {state'} {live'} {store'} o = record {
         leaves = λ w h _.
             let p = s.passes w h in
             let m' = called_in P f (cells args) w in
             let x = o.leaves P w.machine m' (carries w h) (rests h p starts) (held h p starts) in
             let y = subst (λ (n : ℕ). FinishLeaves (record { live = n; store = room store }) m' done state' live' store') l x in
-            rw (sent_is args (rooms_of live store) s.whole p) (judged_leaves (calls f (cells args) []) (omega arith) y (λ z. (o.appends P w.machine m' (carries w h) (rests h p starts) (held h p starts) z).free) o.refused);
+            rw (sent_is args (rooms_of live store) s.whole p) (judged_leaves state live store (calls f (cells args) []) (omega arith) y (on_ok_weaker done (λ a. a.free) (o.appends P w.machine m' (carries w h) (rests h p starts) (held h p starts))) o.refused);
         same_state = o.same_state;
         same_live = o.same_live;
         same_store = o.same_store;
       }
+
+      module _ {done : std.Result ℕ Refusal} {state' live' store' : List ℕ} (o : Finishes plan (cells args) (fresh_counts u) most done state live store starts state' live' store') where
+        pub begun : {n : ℕ} → done ≡ std.Ok n → SentWorld P (starting f args) 0 state live store state' live' store'
+        begun e = let x = sent_begun o in rw e at x
+
+        pub begin_refused : {r : Refusal} → done ≡ std.Err r → SentWorld P (starting f args) (number r) state live store state' live' store'
+        begin_refused e = let x = sent_begun o in rw e at x

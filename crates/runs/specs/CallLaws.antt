@@ -1,13 +1,12 @@
 -- One law for each need and return of a run as a call.
-use Rattle.std.specs.Prelude.{◌≡◌, refl, List, ℕ, ◌-◌, ◌≤◌, drop}
+use Rattle.std.specs.Prelude.{◌≡◌, refl, Result, Ok, Err, List, ℕ, ◌-◌, ◌≤◌, drop}
 use Rattle.std.proofs.Common.{sym, ap, ◌∙◌}
 use Rattle.cells.specs.Cells.{cells}
 use Rattle.fuel.specs.Loans.{read, write}
 use Rattle.fuel.specs.declared.Fuel.{Fuel}
-use Rattle.fuel.specs.declared.Loan.{Loan}
-use Rattle.fuel.specs.declared.Loan.TheVariants as loan
-use Rattle.layout.specs.declared.Read.{Read}
-use Rattle.layout.specs.declared.Read.TheVariants as reads
+use Rattle.refusals.specs.declared.Refusal.{Refusal}
+use Rattle.refusals.specs.Refusals.{number}
+use Rattle.layout.specs.declared.Sizes as tables
 use Rattle.machine.specs.Machine.{used}
 use Rattle.machine.specs.Calls.{Trace, runs, call_of, world_after}
 use Rattle.form.specs.Entry.{view_of, Enters}
@@ -16,12 +15,13 @@ use Rattle.loans.specs.Loans.{front_live, front_store, sizes_of}
 use Rattle.loans.specs.LoanLaws.{whole, length_whole}
 use Rattle.loans.specs.EntryLaws.{live_cells_lem, store_cells, front_sizes, tabled, is_ready_lem, un_lent, lent_un_entered, lent_entered}
 use Rattle.runs.specs.Ran.{RunLeaves, RunsLoans, ran_of, RunDone, RunCalled}
+use Rattle.groups.specs.Grouped.{code_of}
 
 -- ---- A run that is entered
-module _ (image state live store : List ℕ) {x : Read} {rows constants inner : List ℕ} (y : Enters image state live store x rows constants inner) {c u k : ℕ} (a : x ≡ reads.Accepted c u k)
-    {t : ℕ} {f : Fuel} {g : Group} {state' live' store' : List ℕ} (r : RunsLoans (tabled image rows constants inner c u k) f t g state live store state' live' store') where
+module _ (image state live store : List ℕ) {x : Result tables.Sizes Refusal} {rows constants inner : List ℕ} (y : Enters image state live store x rows constants inner) {h : tables.Sizes} (a : x ≡ Ok h)
+    {t : ℕ} {f : Fuel} {g : Group} {state' live' store' : List ℕ} (r : RunsLoans (tabled image rows constants inner h.codes h.constants h.inner) f t g state live store state' live' store') where
   abbrev trace : Trace
-  trace = call_of (tabled image rows constants inner c u k) (sizes_of live store) (runs t f) (view_of state live store)
+  trace = call_of (tabled image rows constants inner h.codes h.constants h.inner) (sizes_of live store) (runs t f) (view_of state live store)
 
   run_leaves : RunLeaves trace t g state' (front_live live') (front_store store')
   run_leaves = let h = is_ready_lem image state live store y a in rw (← front_sizes live store) (r.runs.leaves (view_of state live store) h.0.holding h.1)
@@ -33,7 +33,7 @@ module _ (image state live store : List ℕ) {x : Read} {rows constants inner : 
   pub call_most : g.ticks ≤ t
   call_most = run_leaves.most
 
-  run_done : {fuel fuel' : List ℕ} → fuel' ≡ write fuel g.fuel → RunDone trace (view_of state live store).wait (ran_of g.code (t - g.ticks)) state live store fuel state' live' store' fuel'
+  run_done : {fuel fuel' : List ℕ} → fuel' ≡ write fuel g.fuel → RunDone trace (view_of state live store).wait (ran_of (code_of g.stand) (t - g.ticks)) state live store fuel state' live' store' fuel'
   run_done {fuel} z = record {
     answers = λ j. ran_of (run_leaves.answer j) (run_leaves.taken j);
     holds = rw (← live_cells_lem live', ← store_cells store') run_leaves.holds;
@@ -50,14 +50,14 @@ module _ (image state live store : List ℕ) {x : Read} {rows constants inner : 
   }
 
 -- ---- The returns: a loan of fuel that is refused, memory that is refused, a run
-module _ (image : List ℕ) (t : ℕ) (state live store fuel : List ℕ) {o : Loan} (w : o ≡ read fuel) where
-  pub call_unlent : {n : ℕ} → o ≡ loan.Refused n → RunCalled image t (ran_of n 0) state live store fuel state live store fuel
-  call_unlent e = record { does = rw (un_lent image state live store fuel w e) (refl, refl, refl, refl, refl) }
+module _ (image : List ℕ) (t : ℕ) (state live store fuel : List ℕ) {o : Result Fuel Refusal} (w : o ≡ read fuel) where
+  pub call_unlent : {r : Refusal} {n : ℕ} → o ≡ Err r → n ≡ number r → RunCalled image t (ran_of n 0) state live store fuel state live store fuel
+  call_unlent e q = record { does = rw (un_lent image state live store fuel w e, q) (refl, refl, refl, refl, refl) }
 
-  module _ {f : Fuel} (e : o ≡ loan.Held f) {x : Read} {rows constants inner : List ℕ} (y : Enters image state live store x rows constants inner) where
-    pub call_unentered : {n : ℕ} → x ≡ reads.Refused n → RunCalled image t (ran_of n 0) state live store fuel state live store fuel
-    call_unentered k = record { does = rw (lent_un_entered image state live store fuel w e y k) (refl, refl, refl, refl, refl) }
+  module _ {f : Fuel} (e : o ≡ Ok f) {x : Result tables.Sizes Refusal} {rows constants inner : List ℕ} (y : Enters image state live store x rows constants inner) where
+    pub call_unentered : {r : Refusal} {n : ℕ} → x ≡ Err r → n ≡ number r → RunCalled image t (ran_of n 0) state live store fuel state live store fuel
+    call_unentered k m = record { does = rw (m, lent_un_entered image state live store fuel w e y k) (refl, refl, refl, refl, refl) }
 
-    pub call_runs : {c u k : ℕ} (a : x ≡ reads.Accepted c u k) {g : Group} {state' live' store' fuel' : List ℕ} → RunsLoans (tabled image rows constants inner c u k) f t g state live store state' live' store'
-        → fuel' ≡ write fuel g.fuel → RunCalled image t (ran_of g.code (t - g.ticks)) state live store fuel state' live' store' fuel'
-    call_runs a r z = record { does = rw (lent_entered image state live store fuel w e y a) (run_done image state live store y a r z) }
+    pub call_runs : {h : tables.Sizes} (a : x ≡ Ok h) {g : Group} {state' live' store' fuel' : List ℕ} → RunsLoans (tabled image rows constants inner h.codes h.constants h.inner) f t g state live store state' live' store'
+        → fuel' ≡ write fuel g.fuel → {n : ℕ} → n ≡ code_of g.stand → RunCalled image t (ran_of n (t - g.ticks)) state live store fuel state' live' store' fuel'
+    call_runs a r z q = record { does = rw (q, lent_entered image state live store fuel w e y a) (run_done image state live store y a r z) }

@@ -21,6 +21,9 @@ use Rattle.requests.specs.Asked.{rooms_of, Holding, Entered, Leavable, LeavesWor
 use Rattle.requests.specs.AskedLaws.{args_cost, live_of}
 use Rattle.runs.specs.Ran.{RunsWorld}
 use Rattle.runs.specs.RanLaws.{resting_of, ran_leaves, ran_uses, wait_leaves}
+use Rattle.groups.specs.Grouped.{code_of}
+use Rattle.groups.specs.declared.Stand.TheVariants as stand
+use Rattle.refusals.specs.declared.Refusal.TheVariants.{OutOfTurn}
 
 -- what a reader of the state block says of the world that it holds
 abbrev Shows : List ℕ → (World → ℕ) → ℕ → Type 0
@@ -100,7 +103,7 @@ module _ {P : Program} {state live store : List ℕ} (x : Entered P state live s
           record { frames = omega (arith, ap (λ (c : Counts). c.frames) a.resting.rests.counts, a.resting.fits.few); block = w.bounded.same_state.len ∙ x.block }
 
       -- the state block shows what the run leaves
-      lent_leaves : {on wait : ℕ} {state' : List ℕ} → Shows state (λ w. bit w.wait) on → on ≡ 0 → wait ≡ bit (eqb r.code 103) → LeavesWorld r.counts r.left wait state₁ state'
+      lent_leaves : {on wait : ℕ} {state' : List ℕ} → Shows state (λ w. bit w.wait) on → on ≡ 0 → wait ≡ bit (eqb (code_of r.stand) 103) → LeavesWorld r.counts r.left wait state₁ state'
           → RunsWorld P fuel t r state live store state' live' store'
       lent_leaves {wait = wait} b z o l =
           let none : (v : World) → Holding P v state live store → v.wait ≡ false = λ v h. bit_false v.wait (sym (b v h.holds.state) ∙ z) in
@@ -113,16 +116,16 @@ module _ {P : Program} {state live store : List ℕ} (x : Entered P state live s
             free = λ v h a. subst (λ (n : ℕ). drop n (cells store') ≡ drop n (cells store)) (ran_uses P (rooms_of live store) fuel t v (none v h) (lent_ran v h)) w.appends.free;
           }
 
-      pub lent_waits : {on : ℕ} {state' : List ℕ} → Shows state (λ w. bit w.wait) on → on ≡ 0 → r.code ≡ 103 → LeavesWorld r.counts r.left 1 state₁ state'
+      pub lent_waits : {on : ℕ} {state' : List ℕ} → Shows state (λ w. bit w.wait) on → on ≡ 0 → code_of r.stand ≡ 103 → LeavesWorld r.counts r.left 1 state₁ state'
           → RunsWorld P fuel t r state live store state' live' store'
-      lent_waits b z e l = lent_leaves b z (rw (eq-eqb r.code 103 e) refl) l
+      lent_waits b z e l = lent_leaves b z (rw (eq-eqb (code_of r.stand) 103 e) refl) l
 
-      pub lent_ends : {on : ℕ} {state' : List ℕ} → Shows state (λ w. bit w.wait) on → on ≡ 0 → (r.code ≡ 103 → ⊥) → LeavesWorld r.counts r.left 0 state₁ state'
+      pub lent_ends : {on : ℕ} {state' : List ℕ} → Shows state (λ w. bit w.wait) on → on ≡ 0 → (code_of r.stand ≡ 103 → ⊥) → LeavesWorld r.counts r.left 0 state₁ state'
           → RunsWorld P fuel t r state live store state' live' store'
-      lent_ends b z e l = lent_leaves b z (rw (ne_eqb r.code 103 e) refl) l
+      lent_ends b z e l = lent_leaves b z (rw (ne_eqb (code_of r.stand) 103 e) refl) l
 
   -- a run during a wait is out of turn
-  pub lent_turn : {fuel : Fuel} {t left on : ℕ} {c : Counts} → Shows state (λ w. bit w.wait) on → (on ≡ 0 → ⊥) → RunsWorld P fuel t (stood 11 fuel t left c) state live store state live store
+  pub lent_turn : {fuel : Fuel} {t left on : ℕ} {c : Counts} → Shows state (λ w. bit w.wait) on → (on ≡ 0 → ⊥) → RunsWorld P fuel t (stood (stand.Refused OutOfTurn) fuel t left c) state live store state live store
   lent_turn {fuel} {t} b n = record {
     leaves = λ v h a. wait_leaves P (rooms_of live store) fuel t v (bit_true v.wait (λ e. n (b v h.holds.state ∙ e))) h refl refl refl;
     untouched = λ v h e. (refl, refl, refl);

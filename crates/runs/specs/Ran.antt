@@ -16,10 +16,11 @@ use Rattle.requests.specs.Asked.{rooms_of, Holding}
 use Rattle.loans.specs.Loans.{front_live, front_store}
 pub use Rattle.loans.specs.Loans.{Fueled, fueled, sizes_of}
 use Rattle.runs.specs.declared.Ran.{Ran}
+use Rattle.groups.specs.Grouped.{code_of}
 
 -- ---- A run
 pub record RunLeaves (t : Trace) (ticks : ℕ) (r : Group) (state' live' store' : List ℕ) : Type 0 where
-  pub answer : r.code ≡ answer_of t
+  pub answer : code_of r.stand ≡ answer_of t
   pub taken : ticks - r.ticks ≡ length (steps_of t)
   pub most : r.ticks ≤ ticks
   pub fuel : r.fuel ≡ fuel_after t

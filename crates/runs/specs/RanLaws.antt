@@ -19,6 +19,7 @@ use Rattle.groups.specs.declared.Group.{Group}
 use Rattle.requests.specs.Asked.{rooms_of, Holding, LeavesWorld}
 use Rattle.requests.specs.AskedLaws.{block_of, args_cost, live_of, machine_fits, rests_holds}
 use Rattle.runs.specs.Ran.{RunLeaves}
+use Rattle.groups.specs.Grouped.{code_of}
 
 module _ {P : Program} {w : World} {state live store : List ℕ} (h : Holding P w state live store) where
   pub resting_of : {frames end more u : ℕ} {old starts : List ℕ} → Accepted P.image P.codes → room live ≤ 4096 → room store ≤ 65536 → length starts ≡ 256
@@ -57,17 +58,17 @@ module _ (P : Program) (z : Sizes) (fuel : Fuel) (t : ℕ) (w : World) where
   call_waits e = rw e refl
 
   pub ran_leaves : {r : Group} {B : List Cell} {starts state state' live' store' : List ℕ} → w.wait ≡ false → Ran P z t fuel w.slice w.machine r B (cells live') (cells store') starts → B ≡ cells state
-      → (wait : ℕ) → wait ≡ bit (eqb r.code 103) → LeavesWorld r.counts r.left wait state state' → RunLeaves (call_of P z (runs t fuel) w) t r state' live' store'
+      → (wait : ℕ) → wait ≡ bit (eqb (code_of r.stand) 103) → LeavesWorld r.counts r.left wait state state' → RunLeaves (call_of P z (runs t fuel) w) t r state' live' store'
   unfolding answer_of steps_of fuel_after world_after
   ran_leaves {r} e a q wait o l =
       let f = a.follows in
-      let s = l.shows a.machine (eqb r.code 103) (rw q at a.resting.rests.block) a.resting.rests.counts o in
+      let s = l.shows a.machine (eqb (code_of r.stand) 103) (rw q at a.resting.rests.block) a.resting.rests.counts o in
       rw (call_runs e) (record {
         answer = sym f.answer;
         taken = omega (arith, f.taken);
         most = a.less;
         fuel = sym f.fuel;
-        holds = rw f.world (rests_holds (eqb r.code 103) r.left a.resting.rests s);
+        holds = rw f.world (rests_holds (eqb (code_of r.stand) 103) r.left a.resting.rests s);
       })
 
   -- how much of the store is used then
@@ -75,6 +76,6 @@ module _ (P : Program) (z : Sizes) (fuel : Fuel) (t : ℕ) (w : World) where
   unfolding world_after
   ran_uses e a = rw (call_runs e, a.follows.world) (ap (λ (c : Counts). c.store) a.resting.rests.counts)
 
-  pub wait_leaves : {r : Group} {state live store : List ℕ} → w.wait ≡ true → Holding P w state live store → r.code ≡ 11 → r.ticks ≡ t → r.fuel ≡ fuel → RunLeaves (call_of P z (runs t fuel) w) t r state live store
+  pub wait_leaves : {r : Group} {state live store : List ℕ} → w.wait ≡ true → Holding P w state live store → code_of r.stand ≡ 11 → r.ticks ≡ t → r.fuel ≡ fuel → RunLeaves (call_of P z (runs t fuel) w) t r state live store
   unfolding answer_of steps_of fuel_after world_after
   wait_leaves e h a b c = rw (call_waits e) (record { answer = a; taken = omega (arith, b); most = omega (arith, b); fuel = c; holds = h.holds })

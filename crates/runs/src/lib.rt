@@ -3,15 +3,15 @@
 
 ghost use Rattle.std.specs.Prelude.{◌*◌, take};
 ghost use Rattle.reader.specs.Reads.{Fits};
-ghost use Rattle.scan.specs.Tables.{program_in};
+ghost use Rattle.scan.specs.Tables.{program_of};
 ghost use Rattle.requests.specs.Asked.{Entered};
 ghost use Rattle.loans.specs.Loans.{front_live, front_store};
 ghost use Rattle.runs.specs.Ran.{RunsWorld, RunsLoans, RunCalled};
 
-use fuel::{Fuel, Loan};
-use groups::Group;
-use layout::Read;
+use fuel::Fuel;
+use groups::{Group, Stand};
 use plan::Counts;
+use refusals::Refusal;
 
 // The answer of a run, and the ticks that it took.
 #[repr(C)]
@@ -23,19 +23,15 @@ pub struct Ran {
 
 // A run of so many ticks over loans that are cut to their most: 11 during a wait.
 fn run_lent(
-    image: &[u8],
-    rows: &[u32],
-    constants: &[u32],
-    inner: &[u32],
-    codes: usize,
+    program: &lookups::Program,
     state: &mut [u8],
     live: &mut [u8],
     store: &mut [u8],
     fuel: Fuel,
     ticks: u32,
 ) -> Group
-    requires { Entered (program_in image.now rows.now constants.now inner.now codes) state.old live.old store.old }
-    ensures { RunsWorld (program_in image.now rows.now constants.now inner.now codes) fuel ticks result state.old live.old store.old state.new live.new store.new }
+    requires { Entered (program_of program.now) state.old live.old store.old }
+    ensures { RunsWorld (program_of program.now) fuel ticks result state.old live.old store.old state.new live.new store.new }
 {
     let mut starts = [0u32; 256];
     let mut args = [0u8; 65536];
@@ -49,7 +45,7 @@ fn run_lent(
     let left = states::slice(state);
     if states::waits(state) != 0 {
         return Group {
-            code: 11,
+            stand: Stand::Refused(Refusal::OutOfTurn),
             fuel,
             ticks,
             left,
@@ -57,11 +53,7 @@ fn run_lent(
         };
     }
     let r = groups::run(
-        image,
-        rows,
-        constants,
-        inner,
-        codes,
+        program,
         state,
         live,
         store,
@@ -72,7 +64,7 @@ fn run_lent(
         left,
         c,
     );
-    if r.code == 103 {
+    if let Stand::Host = r.stand {
         requests::leave(state, r.counts, r.left, 1);
         return r;
     }
@@ -80,39 +72,21 @@ fn run_lent(
     r
 }
 
-// The same over the whole loans, with tables of which only the front is filled.
+// The same over the whole loans.
 fn run_entered(
-    image: &[u8],
-    rows: &[u32],
-    constants: &[u32],
-    inner: &[u32],
-    codes: usize,
-    used: usize,
-    kept: usize,
+    program: &lookups::Program,
     state: &mut [u8],
     live: &mut [u8],
     store: &mut [u8],
     fuel: Fuel,
     ticks: u32,
 ) -> Group
-    requires { Fits codes used kept rows.now constants.now inner.now × Entered (program_in image.now (take (10 * codes) rows.now) (take used constants.now) (take kept inner.now) codes) state.old (front_live live.old) (front_store store.old) }
-    ensures { RunsLoans (program_in image.now (take (10 * codes) rows.now) (take used constants.now) (take kept inner.now) codes) fuel ticks result state.old live.old store.old state.new live.new store.new }
+    requires { Entered (program_of program.now) state.old (front_live live.old) (front_store store.old) }
+    ensures { RunsLoans (program_of program.now) fuel ticks result state.old live.old store.old state.new live.new store.new }
 {
-    let end = 10 * codes;
     let l = loans::lent_bytes(live.len(), 65536);
     let s = loans::lent_bytes(store.len(), 1048576);
-    run_lent(
-        image,
-        &rows[..end],
-        &constants[..used],
-        &inner[..kept],
-        codes,
-        state,
-        &mut live[..l],
-        &mut store[..s],
-        fuel,
-        ticks,
-    )
+    run_lent(program, state, &mut live[..l], &mut store[..s], fuel, ticks)
 }
 
 // A run of so many ticks: its answer and the ticks taken.
@@ -127,8 +101,11 @@ pub fn run(
     ensures { RunCalled image.now ticks result state.old live.old store.old fuel.old state.new live.new store.new fuel.new }
 {
     match fuel::read(fuel) {
-        Loan::Refused(n) => Ran { code: n, ticks: 0 },
-        Loan::Held(f) => {
+        Err(refusal) => Ran {
+            code: refusal.number(),
+            ticks: 0,
+        },
+        Ok(f) => {
             let mut rows = [0u32; 2560];
             let mut constants = [0u32; 10923];
             let mut inner = [0u32; 256];
@@ -141,15 +118,16 @@ pub fn run(
                 &mut constants,
                 &mut inner,
             ) {
-                Read::Refused(n) => Ran { code: n, ticks: 0 },
-                Read::Accepted(codes, used, kept) => {
-                    let r = run_entered(
-                        image, &rows, &constants, &inner, codes, used, kept, state, live, store, f,
-                        ticks,
-                    );
+                Err(refusal) => Ran {
+                    code: refusal.number(),
+                    ticks: 0,
+                },
+                Ok(sizes) => {
+                    let program = form::filled(image, &rows, &constants, &inner, sizes);
+                    let r = run_entered(&program, state, live, store, f, ticks);
                     fuel::write(fuel, r.fuel);
                     Ran {
-                        code: r.code,
+                        code: r.stand.code(),
                         ticks: ticks - r.ticks,
                     }
                 }

@@ -1,7 +1,8 @@
-// Values and frames in form: the part of the form test (refusal 7) that store and live stack share. The program is lent as the tables that its reader filled: image, rows, constants, inner, codes.
+// Values and frames in form: the part of the form test (refusal 7) that store and live stack share.
 #![tactic(auto)]
 
 ghost use Rattle.std.specs.Prelude.{◌≡◌, ◌+◌, ◌*◌, ◌≤◌, length, take, drop, eqb, leb};
+ghost use Rattle.std.specs.Bool.{then_some};
 ghost use Rattle.cells.specs.Le.{le_at};
 ghost use Rattle.image.specs.Records.{both};
 ghost use Rattle.machine.specs.Values.{bytes_at, code_of};
@@ -10,97 +11,52 @@ ghost use Rattle.image.specs.Program.{all};
 ghost use Rattle.machine.specs.Calls.{is_constant};
 ghost use Rattle.memory.specs.View.{handlers_of, frame_size, frames_size};
 ghost use Rattle.memory.specs.Tests.{object_of, is_null_cell, callback_fits, spare_fits, target_fits, value_fits, effect_fits, code_at, lucia_fits, kind_fits, limit_of, handlers_fit, body_fits, frame_fits, frames_fit};
-ghost use Rattle.scan.specs.Tables.{program_in, scanned, limited};
+ghost use Rattle.scan.specs.Tables.{program_of};
 ghost use Rattle.scan.specs.Values.{is_plain};
 
 use cells::Cell;
 
-// Where what was tested ends.
-#[derive(Clone, Copy)]
-pub enum Scan {
-    At(usize),
-    Bad,
-}
-
-// Below which number the targets of a frame's handlers lie; 0 for a callback frame.
-#[derive(Clone, Copy)]
-pub enum Limit {
-    Below(usize),
-    Misfit,
-}
-
 // Does the first cell of a kind of object stand at a handle, below a place of the store?
+#[tactic(auto, unfolding(image::specs::Records::both, memory::specs::Tests::object_of))]
 fn object_of(store: &[u8], below: usize, kind: u32, handle: u32) -> bool
     requires { below ≤ room store.now }
     ensures { result ≡ object_of (cells store.now) below kind handle }
 {
     let h = handle as usize;
-    if h < below {
-        return cells::tag(store, h) == kind;
-    }
-    false
+    h < below && cells::tag(store, h) == kind
 }
 
 // Does a value name a constant of this kind?
-fn is_constant(
-    image: &[u8],
-    rows: &[u32],
-    constants: &[u32],
-    inner: &[u32],
-    codes: usize,
-    kind: u16,
-    v: Cell,
-) -> bool
-    ensures { result ≡ is_constant (program_in image.now rows.now constants.now inner.now codes) kind v }
+fn is_constant(program: &lookups::Program, kind: u16, v: Cell) -> bool
+    ensures { result ≡ is_constant (program_of program.now) kind v }
 {
     let code = v.number as usize;
-    if code >= codes {
+    if code >= program.codes {
         return false;
     }
-    if v.payload >= program::field(rows, code, 7) as u64 {
+    if v.payload >= program.constant_count(code) as u64 {
         return false;
     }
-    let c = lookups::constant(image, rows, constants, code, v.payload as usize);
+    let c = program.constant(code, v.payload as usize);
     c.kind == kind
 }
 
 // Does a value name an effect that the image declares?
-fn is_declared(
-    image: &[u8],
-    rows: &[u32],
-    constants: &[u32],
-    inner: &[u32],
-    codes: usize,
-    v: Cell,
-) -> bool
-    ensures { result ≡ both (is_constant (program_in image.now rows.now constants.now inner.now codes) 23 v) (eqb (le_at 2 (bytes_at (program_in image.now rows.now constants.now inner.now codes) v) 0) 3) }
+fn is_declared(program: &lookups::Program, v: Cell) -> bool
+    ensures { result ≡ both (is_constant (program_of program.now) 23 v) (eqb (le_at 2 (bytes_at (program_of program.now) v) 0) 3) }
 {
-    if !is_constant(image, rows, constants, inner, codes, 23, v) {
+    if !is_constant(program, 23, v) {
         return false;
     }
-    let c = lookups::constant(
-        image,
-        rows,
-        constants,
-        v.number as usize,
-        v.payload as usize,
-    );
-    contents::effect_number(contents::content(image, c)) == 3
+    let c = program.constant(v.number as usize, v.payload as usize);
+    contents::effect_number(contents::content(program.image, c)) == 3
 }
 
 // Is a cell a value whose handle, if it has one, stands in the store below a place?
-pub fn value_fits(
-    image: &[u8],
-    rows: &[u32],
-    constants: &[u32],
-    inner: &[u32],
-    codes: usize,
-    store: &[u8],
-    below: usize,
-    v: Cell,
-) -> bool
+#[tactic(auto, unfolding(image::specs::Records::both, memory::specs::Tests::value_fits))]
+pub fn value_fits(program: &lookups::Program, store: &[u8], below: usize, v: Cell) -> bool
     requires { below ≤ room store.now }
-    ensures { result ≡ value_fits (program_in image.now rows.now constants.now inner.now codes) (cells store.now) below v }
+    ensures { result ≡ value_fits (program_of program.now) (cells store.now) below v }
 {
     let tag = v.tag;
     let number = v.number;
@@ -110,45 +66,30 @@ pub fn value_fits(
         1 => number <= 1 && plain,
         2 => number == 0,
         3 => number == 0,
-        4 => is_constant(image, rows, constants, inner, codes, 20, v),
-        5 => is_constant(image, rows, constants, inner, codes, 21, v),
+        4 => is_constant(program, 20, v),
+        5 => is_constant(program, 21, v),
         6 => plain && object_of(store, below, 129, number),
         7 => plain && object_of(store, below, 128, number),
         8 => number <= 2 && plain,
-        20 => {
-            if number < 1 {
-                return false;
-            }
-            number <= 6 && plain
-        }
+        20 => number >= 1 && number <= 6 && plain,
         23 => plain && object_of(store, below, 130, number),
-        24 => is_declared(image, rows, constants, inner, codes, v),
+        24 => is_declared(program, v),
         39 => true,
         _ => false,
     }
 }
 
 // Is a cell an effect?
-pub fn effect_fits(
-    image: &[u8],
-    rows: &[u32],
-    constants: &[u32],
-    inner: &[u32],
-    codes: usize,
-    store: &[u8],
-    below: usize,
-    v: Cell,
-) -> bool
+#[tactic(auto, unfolding(image::specs::Records::both, memory::specs::Tests::effect_fits))]
+pub fn effect_fits(program: &lookups::Program, store: &[u8], below: usize, v: Cell) -> bool
     requires { below ≤ room store.now }
-    ensures { result ≡ effect_fits (program_in image.now rows.now constants.now inner.now codes) (cells store.now) below v }
+    ensures { result ≡ effect_fits (program_of program.now) (cells store.now) below v }
 {
-    if v.tag % 16 != 8 {
-        return false;
-    }
-    value_fits(image, rows, constants, inner, codes, store, below, v)
+    v.tag % 16 == 8 && value_fits(program, store, below, v)
 }
 
 // Is a cell null or an Int? Most cells are, and need no look at program and store.
+#[tactic(auto, unfolding(crate::specs::Values::is_plain))]
 fn is_plain(c: Cell) -> bool
     ensures { result ≡ is_plain c }
 {
@@ -160,11 +101,7 @@ fn is_plain(c: Cell) -> bool
 
 // Are n cells of x values?
 pub fn values_fit(
-    image: &[u8],
-    rows: &[u32],
-    constants: &[u32],
-    inner: &[u32],
-    codes: usize,
+    program: &lookups::Program,
     store: &[u8],
     below: usize,
     x: &[u8],
@@ -172,41 +109,35 @@ pub fn values_fit(
     n: usize,
 ) -> bool
     requires { (below ≤ room store.now) × (from + n ≤ room x.now) }
-    ensures { result ≡ all (value_fits (program_in image.now rows.now constants.now inner.now codes) (cells store.now) below) (take n (drop from (cells x.now))) }
+    ensures { result ≡ all (value_fits (program_of program.now) (cells store.now) below) (take n (drop from (cells x.now))) }
 {
-    let mut i = 0;
-    while i < n {
+    for i in 0..n {
         let v = cells::get(x, from + i);
         if !is_plain(v) {
-            if !value_fits(image, rows, constants, inner, codes, store, below, v) {
+            if !value_fits(program, store, below, v) {
                 return false;
             }
         }
-        i += 1;
     }
     true
 }
 
 // Is a cell the target of a handler?
+#[tactic(auto, unfolding(image::specs::Records::both, memory::specs::Tests::target_fits))]
 fn target_fits(limit: usize, c: Cell) -> bool
     ensures { result ≡ target_fits limit c }
 {
-    if c.tag != 67 {
-        return false;
-    }
-    if limit == 0 {
-        return c.number == 0 && c.payload == 0;
-    }
-    (c.number as usize) < limit
+    c.tag == 67
+        && if limit == 0 {
+            c.number == 0 && c.payload == 0
+        } else {
+            (c.number as usize) < limit
+        }
 }
 
 // Are 2 * n cells of x handlers?
 fn handlers_fit(
-    image: &[u8],
-    rows: &[u32],
-    constants: &[u32],
-    inner: &[u32],
-    codes: usize,
+    program: &lookups::Program,
     store: &[u8],
     below: usize,
     x: &[u8],
@@ -215,154 +146,116 @@ fn handlers_fit(
     limit: usize,
 ) -> bool
     requires { (below ≤ room store.now) × (n ≤ 16) × (from + 2 * n ≤ room x.now) }
-    ensures { result ≡ handlers_fit (program_in image.now rows.now constants.now inner.now codes) (cells store.now) below limit n (drop from (cells x.now)) }
+    ensures { result ≡ handlers_fit (program_of program.now) (cells store.now) below limit n (drop from (cells x.now)) }
 {
-    let mut i = 0;
-    while i < n {
+    for i in 0..n {
         let e = cells::get(x, from + 2 * i);
-        if !effect_fits(image, rows, constants, inner, codes, store, below, e) {
+        if !effect_fits(program, store, below, e) {
             return false;
         }
         let t = cells::get(x, from + 2 * i + 1);
         if !target_fits(limit, t) {
             return false;
         }
-        i += 1;
     }
     true
 }
 
 // Is a cell null?
+#[tactic(auto, unfolding(image::specs::Records::both))]
 pub fn is_null(c: Cell) -> bool
     ensures { result ≡ is_null_cell c }
 {
-    if c.tag != 0 {
-        return false;
-    }
-    if c.number != 0 {
-        return false;
-    }
-    c.payload == 0
+    c.tag == 0 && c.number == 0 && c.payload == 0
 }
 
 // The place's kind, and three spare cells.
+#[tactic(auto, unfolding(image::specs::Records::both, memory::specs::Tests::spare_fits))]
 fn spare_fits(x: &[u8], at: usize) -> bool
     requires { at + 6 ≤ room x.now }
     ensures { result ≡ spare_fits (drop at (cells x.now)) }
 {
-    if cells::tag(x, at + 2) != 68 {
-        return false;
-    }
-    if !is_null(cells::get(x, at + 3)) {
-        return false;
-    }
-    if !is_null(cells::get(x, at + 4)) {
-        return false;
-    }
-    is_null(cells::get(x, at + 5))
+    cells::tag(x, at + 2) == 68
+        && is_null(cells::get(x, at + 3))
+        && is_null(cells::get(x, at + 4))
+        && is_null(cells::get(x, at + 5))
 }
 
-// A Lucia frame: its closure, place and locals.
+// A Lucia frame, with its closure, place and locals: how many opcodes its code has.
 fn lucia_fits(
-    image: &[u8],
-    rows: &[u32],
-    constants: &[u32],
-    inner: &[u32],
-    codes: usize,
+    program: &lookups::Program,
     store: &[u8],
     below: usize,
     x: &[u8],
     at: usize,
-) -> Limit
+) -> Option<usize>
     requires { (below ≤ room store.now) × (at + 6 ≤ room x.now) }
-    ensures { result ≡ limited (lucia_fits (program_in image.now rows.now constants.now inner.now codes) (cells store.now) below (drop at (cells x.now))) (length (code_of (program_in image.now rows.now constants.now inner.now codes) (code_at (program_in image.now rows.now constants.now inner.now codes) (cells store.now) below (drop at (cells x.now)))).opcodes) }
+    ensures { result ≡ then_some (lucia_fits (program_of program.now) (cells store.now) below (drop at (cells x.now))) (length (code_of (program_of program.now) (code_at (program_of program.now) (cells store.now) below (drop at (cells x.now)))).opcodes) }
 {
     let c = cells::get(x, at + 1);
     if c.tag != 7 {
-        return Limit::Misfit;
+        return None;
     }
     if c.payload != 0 {
-        return Limit::Misfit;
+        return None;
     }
     if !object_of(store, below, 128, c.number) {
-        return Limit::Misfit;
+        return None;
     }
     let code = cells::number(store, c.number as usize) as usize;
-    if code >= codes {
-        return Limit::Misfit;
+    if code >= program.codes {
+        return None;
     }
-    let opcodes = program::field(rows, code, 1);
+    let opcodes = program.opcode_count(code);
     if cells::number(x, at + 2) as usize >= opcodes {
-        return Limit::Misfit;
+        return None;
     }
-    if cells::number(x, at) != lookups::locals(image, rows, code) as u32 {
-        return Limit::Misfit;
+    if cells::number(x, at) != program.locals(code) as u32 {
+        return None;
     }
-    Limit::Below(opcodes)
+    Some(opcodes)
 }
 
 // A callback frame has no place and no locals.
+#[tactic(auto, using(crate::specs::Heads::place_is, crate::specs::Heads::locals_is), unfolding(image::specs::Records::both, memory::specs::Tests::callback_fits))]
 fn callback_fits(x: &[u8], at: usize, subject: bool) -> bool
     requires { at + 6 ≤ room x.now }
     ensures { result ≡ callback_fits subject (drop at (cells x.now)) }
 {
-    if !subject {
-        return false;
-    }
-    if cells::number(x, at + 2) != 0 {
-        return false;
-    }
-    cells::number(x, at) == 0
+    subject && cells::number(x, at + 2) == 0 && cells::number(x, at) == 0
 }
 
-// The limit of a callback frame.
-fn untargeted(fits: bool) -> Limit
-    ensures { result ≡ limited fits 0 }
-{
-    if fits {
-        return Limit::Below(0);
-    }
-    Limit::Misfit
-}
-
-// A frame of one of the three kinds.
+// A frame of one of the three kinds: below which number the targets of its handlers lie, 0 for a callback frame.
+#[tactic(auto, using(crate::specs::Heads::kind_is, crate::specs::Heads::subject_is), unfolding(image::specs::Records::both, memory::specs::Tests::kind_fits, memory::specs::Tests::limit_of))]
 fn kind_fits(
-    image: &[u8],
-    rows: &[u32],
-    constants: &[u32],
-    inner: &[u32],
-    codes: usize,
+    program: &lookups::Program,
     store: &[u8],
     below: usize,
     x: &[u8],
     at: usize,
-) -> Limit
+) -> Option<usize>
     requires { (below ≤ room store.now) × (at + 6 ≤ room x.now) }
-    ensures { result ≡ limited (kind_fits (program_in image.now rows.now constants.now inner.now codes) (cells store.now) below (drop at (cells x.now))) (limit_of (program_in image.now rows.now constants.now inner.now codes) (cells store.now) below (drop at (cells x.now))) }
+    ensures { result ≡ then_some (kind_fits (program_of program.now) (cells store.now) below (drop at (cells x.now))) (limit_of (program_of program.now) (cells store.now) below (drop at (cells x.now))) }
 {
     let kind = cells::tag(x, at);
     match kind {
-        64 => lucia_fits(image, rows, constants, inner, codes, store, below, x, at),
+        64 => lucia_fits(program, store, below, x, at),
         65 => {
             let callback = cells::tag(x, at + 1) == 39;
-            untargeted(callback_fits(x, at, callback))
+            callback_fits(x, at, callback).then_some(0)
         }
         66 => {
             let e = cells::get(x, at + 1);
-            let effect = effect_fits(image, rows, constants, inner, codes, store, below, e);
-            untargeted(callback_fits(x, at, effect))
+            let effect = effect_fits(program, store, below, e);
+            callback_fits(x, at, effect).then_some(0)
         }
-        _ => Limit::Misfit,
+        _ => None,
     }
 }
 
 // The cells behind the head of a frame: locals, handlers, stack.
 fn body_fits(
-    image: &[u8],
-    rows: &[u32],
-    constants: &[u32],
-    inner: &[u32],
-    codes: usize,
+    program: &lookups::Program,
     store: &[u8],
     below: usize,
     x: &[u8],
@@ -370,135 +263,68 @@ fn body_fits(
     limit: usize,
 ) -> bool
     requires { (below ≤ room store.now) × (at + frame_size (drop at (cells x.now)) ≤ room x.now) × (handlers_of (drop at (cells x.now)) ≤ 16) }
-    ensures { limit ≡ limit_of (program_in image.now rows.now constants.now inner.now codes) (cells store.now) below (drop at (cells x.now)) → result ≡ body_fits (program_in image.now rows.now constants.now inner.now codes) (cells store.now) below (drop at (cells x.now)) }
+    ensures { limit ≡ limit_of (program_of program.now) (cells store.now) below (drop at (cells x.now)) → result ≡ body_fits (program_of program.now) (cells store.now) below (drop at (cells x.now)) }
 {
     let locals = cells::number(x, at) as usize;
     let handlers = cells::payload(x, at) as usize;
     let stack = cells::payload(x, at + 2) as usize;
-    if !values_fit(
-        image,
-        rows,
-        constants,
-        inner,
-        codes,
-        store,
-        below,
-        x,
-        at + 6,
-        locals,
-    ) {
-        return false;
-    }
     let from = at + 6 + locals;
-    if !handlers_fit(
-        image, rows, constants, inner, codes, store, below, x, from, handlers, limit,
-    ) {
-        return false;
-    }
-    values_fit(
-        image,
-        rows,
-        constants,
-        inner,
-        codes,
-        store,
-        below,
-        x,
-        from + 2 * handlers,
-        stack,
-    )
+    values_fit(program, store, below, x, at + 6, locals)
+        && handlers_fit(program, store, below, x, from, handlers, limit)
+        && values_fit(program, store, below, x, from + 2 * handlers, stack)
 }
 
-// How many cells the frame at `at` has, if they are there.
-fn frame_end(x: &[u8], at: usize) -> Scan
+// Where the frame at `at` ends, if its cells are there.
+fn frame_end(x: &[u8], at: usize) -> Option<usize>
     requires { (at + 6 ≤ room x.now) × (handlers_of (drop at (cells x.now)) ≤ 16) }
-    ensures { result ≡ scanned (leb (frame_size (drop at (cells x.now))) (length (drop at (cells x.now)))) (at + frame_size (drop at (cells x.now))) }
+    ensures { result ≡ then_some (leb (frame_size (drop at (cells x.now))) (length (drop at (cells x.now)))) (at + frame_size (drop at (cells x.now))) }
 {
-    let left = cells::room(x) - at - 6;
     let locals = cells::number(x, at) as usize;
     let handlers = cells::payload(x, at) as usize;
     let stack = cells::payload(x, at + 2) as usize;
-    if left < locals {
-        return Scan::Bad;
-    }
-    if left - locals < 2 * handlers {
-        return Scan::Bad;
-    }
-    if left - locals - 2 * handlers < stack {
-        return Scan::Bad;
-    }
-    Scan::At(at + 6 + locals + 2 * handlers + stack)
+    let end = (at + 6 + locals + 2 * handlers).checked_add(stack)?;
+    (end <= cells::room(x)).then_some(end)
 }
 
 // A frame in form at `at`: where it ends.
 fn frame_fits(
-    image: &[u8],
-    rows: &[u32],
-    constants: &[u32],
-    inner: &[u32],
-    codes: usize,
+    program: &lookups::Program,
     store: &[u8],
     below: usize,
     x: &[u8],
     at: usize,
-) -> Scan
+) -> Option<usize>
     requires { (below ≤ room store.now) × (at ≤ room x.now) }
-    ensures { result ≡ scanned (frame_fits (program_in image.now rows.now constants.now inner.now codes) (cells store.now) below (drop at (cells x.now))) (at + frame_size (drop at (cells x.now))) }
+    ensures { result ≡ then_some (frame_fits (program_of program.now) (cells store.now) below (drop at (cells x.now))) (at + frame_size (drop at (cells x.now))) }
 {
     if cells::room(x) - at < 6 {
-        return Scan::Bad;
+        return None;
     }
     if !spare_fits(x, at) {
-        return Scan::Bad;
+        return None;
     }
-    match kind_fits(image, rows, constants, inner, codes, store, below, x, at) {
-        Limit::Misfit => Scan::Bad,
-        Limit::Below(limit) => {
-            if cells::payload(x, at) > 16 {
-                return Scan::Bad;
-            }
-            match frame_end(x, at) {
-                Scan::Bad => Scan::Bad,
-                Scan::At(end) => {
-                    if body_fits(
-                        image, rows, constants, inner, codes, store, below, x, at, limit,
-                    ) {
-                        return Scan::At(end);
-                    }
-                    Scan::Bad
-                }
-            }
-        }
+    let limit = kind_fits(program, store, below, x, at)?;
+    if cells::payload(x, at) > 16 {
+        return None;
     }
+    let end = frame_end(x, at)?;
+    body_fits(program, store, below, x, at, limit).then_some(end)
 }
 
 // So many frames in form from the first cell of x on: where they end.
 pub fn frames_fit(
-    image: &[u8],
-    rows: &[u32],
-    constants: &[u32],
-    inner: &[u32],
-    codes: usize,
+    program: &lookups::Program,
     store: &[u8],
     below: usize,
     x: &[u8],
     n: usize,
-) -> Scan
+) -> Option<usize>
     requires { below ≤ room store.now }
-    ensures { result ≡ scanned (frames_fit (program_in image.now rows.now constants.now inner.now codes) (cells store.now) below n (cells x.now)) (frames_size n (cells x.now)) }
+    ensures { result ≡ then_some (frames_fit (program_of program.now) (cells store.now) below n (cells x.now)) (frames_size n (cells x.now)) }
 {
     let mut at = 0;
-    let mut i = 0;
-    while i < n {
-        match frame_fits(image, rows, constants, inner, codes, store, below, x, at) {
-            Scan::At(end) => {
-                at = end;
-            }
-            Scan::Bad => {
-                return Scan::Bad;
-            }
-        }
-        i += 1;
+    for _ in 0..n {
+        at = frame_fits(program, store, below, x, at)?;
     }
-    Scan::At(at)
+    Some(at)
 }

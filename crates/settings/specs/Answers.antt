@@ -88,8 +88,8 @@ module _ (image state live store : List ℕ) (r : ℕ) (state' : List ℕ) where
       (λ e k w. wrote k (set_builtin g v) _ (sets_builtin g v e.world.machine.frames) (set (cells state) (260 + g) v) r state' (set_builtin_lem e.program (sizes_of live store) e.world k.fits g v)
       (λ t. builtin_set k g v) (swapped k g v _ w)) h)
 
-  pub asked_global : (g : ℕ) {u v : Cell} → u ≡ v → Setting 4 g u state store X r state' → Asked (set_global g v) image state live store r state'
-  asked_global g e h = rw (← e) (global_asked g _ h)
+  pub asked_global : (g : ℕ) {u v : Cell} {n : ℕ} → u ≡ v → Setting 4 g u state store X n state' → r ≡ n → Asked (set_global g v) image state live store r state'
+  asked_global g e h q = rw (← e) (global_asked g _ (rw q h))
 
-  pub asked_builtin : (g : ℕ) {u v : Cell} → u ≡ v → Setting 260 g u state store X r state' → Asked (set_builtin g v) image state live store r state'
-  asked_builtin g e h = rw (← e) (builtin_asked g _ h)
+  pub asked_builtin : (g : ℕ) {u v : Cell} {n : ℕ} → u ≡ v → Setting 260 g u state store X n state' → r ≡ n → Asked (set_builtin g v) image state live store r state'
+  asked_builtin g e h q = rw (← e) (builtin_asked g _ (rw q h))

@@ -5,12 +5,14 @@ ghost use Rattle.std.specs.Prelude.{◌≤◌};
 ghost use Rattle.machine.specs.Calls.{set_global, set_builtin};
 ghost use Rattle.form.specs.Entry.{entry};
 ghost use Rattle.asks.specs.Asks.{cell_of, Asked};
+ghost use Rattle.refusals.specs.Refusals.{number_of};
 ghost use Rattle.settings.specs.Settings.{Setting};
 
-use asks::Named;
 use cells::Cell;
+use refusals::Refusal;
 
 // Cell `first + number` of the state block becomes a value.
+#[tactic(auto, using(crate::specs::SettingLaws::set_not))]
 fn set_value(
     image: &[u8],
     state: &mut [u8],
@@ -19,21 +21,16 @@ fn set_value(
     first: usize,
     number: u32,
     v: Cell,
-) -> u32
+) -> Result<(), Refusal>
     requires { first ≤ 260 }
-    ensures { Setting first number v state.old store.now (entry image.now state.old live.now store.now) result state.new }
+    ensures { Setting first number v state.old store.now (entry image.now state.old live.now store.now) (number_of result) state.new }
 {
-    match asks::entered_with(image, state, live, store, v) {
-        Named::NotEntered(n) => n,
-        Named::Unknown => 5,
-        Named::Known(_, _) => {
-            if number > 255 {
-                return 5;
-            }
-            cells::put(state, first + number as usize, v);
-            0
-        }
+    asks::entered_with(image, state, live, store, v)?;
+    if number > 255 {
+        return Err(Refusal::BadValue);
     }
+    cells::put(state, first + number as usize, v);
+    Ok(())
 }
 
 pub fn set_global(
@@ -47,15 +44,8 @@ pub fn set_global(
 ) -> u32
     ensures { Asked (set_global number (cell_of low high)) image.now state.old live.now store.now result state.new }
 {
-    set_value(
-        image,
-        state,
-        live,
-        store,
-        4,
-        number,
-        asks::cell_of(low, high),
-    )
+    let v = asks::cell_of(low, high);
+    refusals::number_of(set_value(image, state, live, store, 4, number, v))
 }
 
 pub fn set_builtin(
@@ -69,13 +59,6 @@ pub fn set_builtin(
 ) -> u32
     ensures { Asked (set_builtin number (cell_of low high)) image.now state.old live.now store.now result state.new }
 {
-    set_value(
-        image,
-        state,
-        live,
-        store,
-        260,
-        number,
-        asks::cell_of(low, high),
-    )
+    let v = asks::cell_of(low, high);
+    refusals::number_of(set_value(image, state, live, store, 260, number, v))
 }

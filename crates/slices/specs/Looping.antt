@@ -32,6 +32,7 @@ use Rattle.slices.specs.Sliced.{past_of, At, Sliceable, Reached, Ended, Slices, 
 use Rattle.slices.specs.SlicedLaws.{slice_of, past_frame, at_given, reached_first, reached_end, reached_more, reached_on, reached_jump, reached_spent}
 use Rattle.slices.specs.declared.End.TheVariants.{Paused, Spent, Refused, Throws, Closes}
 use Rattle.slices.specs.declared.Slice.{Slice}
+use Rattle.refusals.specs.declared.Refusal.{Refusal}
 
 same_on : {a b c : List ℕ} → Same a b → Same b c → Same a c
 same_on s t = record { rest = t.rest ∙ s.rest; len = t.len ∙ s.len }
@@ -191,7 +192,7 @@ module _ {image rows constants inner : List ℕ} {codes : ℕ} {first : register
           rw (d.1.state_is, d.1.live_is, d.1.store_is)
           (reached_end (Throws g' x) y, some, record { error = t.error; place = t.place; locals = t.locals; stack = t.stack; handlers = t.handlers; is = t.is; throws = t.throws; runs = t.runs }))
 
-      pub ends_refused : {k : ℕ} {r : Slice} → n ≡ after.Stops k → r ≡ slice_of (Refused k) g u left ticks → Slices (program_in image rows constants inner codes) first handle code taken begun given r state live store state'' live'' store''
+      pub ends_refused : {k : Refusal} {r : Slice} → n ≡ after.Stops k → r ≡ slice_of (Refused k) g u left ticks → Slices (program_in image rows constants inner codes) first handle code taken begun given r state live store state'' live'' store''
       unfolding reached_end
       ends_refused {k} q w =
           ends (slice_of (Refused k) g u left ticks) w i.lower (ap (used_after u) q)

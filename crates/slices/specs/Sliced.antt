@@ -19,6 +19,7 @@ use Rattle.slices.specs.Follows.{Follows}
 use Rattle.slices.specs.declared.End.{End}
 use Rattle.slices.specs.declared.End.TheVariants.{Paused, Spent, Refused, Throws, Closes}
 use Rattle.slices.specs.declared.Slice.{Slice}
+use Rattle.refusals.specs.Refusals.{number}
 
 abbrev pub past_of : registers.Running → registers.Running
 past_of g = record { base = g.base; locals = g.locals; handlers = g.handlers; stack = g.stack; place = g.place + 1 }
@@ -67,7 +68,7 @@ abbrev pub Ended : Program → Sizes → ℕ → ℕ → M → ℕ → ℕ → S
 Ended P z t left m handle code s Paused B L S = Reached P z t left m handle code s B L S × (s.ticks ≡ 0)
 Ended P z t left m handle code s Spent B L S = Spends P z t left m handle code s B L S
 Ended P z t left m handle code s (Refused n) B L S =
-    (x : Reached P z t left m handle code s B L S) × (0 < s.ticks) × (outcome P z (next_action P x.machine x.machine.frames) x.machine ≡ stops n)
+    (x : Reached P z t left m handle code s B L S) × (0 < s.ticks) × (outcome P z (next_action P x.machine x.machine.frames) x.machine ≡ stops (number n))
 Ended P z t left m handle code s (Throws h e) B L S =
     (x : Reached P z t left m handle code s B L S) × (0 < s.ticks) × Threw (λ (y : v.Error) (F : List Frame). next_action P x.machine x.machine.frames ≡ takes (throws y F)) x.at.frame e h L
 Ended P z t left m handle code s (Closes k o) B L S =

@@ -2,11 +2,12 @@
 #![tactic(auto)]
 
 ghost use Rattle.std.specs.Prelude.{◌≡◌, ◌<◌};
-ghost use Rattle.scan.specs.Tables.{program_in};
+ghost use Rattle.scan.specs.Tables.{program_of};
 ghost use Rattle.slices.specs.Sliced.{past_of, Sliceable, Slices, Quickens};
 
 use moves::Running;
 use plan::Error;
+use refusals::Refusal;
 use steps::{After, Closing, Quick};
 
 // How a slice ends: no tick is left; all of it is spent; its next opcode is refused, throws its own error over the frame left, or closes it.
@@ -14,7 +15,7 @@ use steps::{After, Closing, Quick};
 pub enum End {
     Paused,
     Spent,
-    Refused(u32),
+    Refused(Refusal),
     Throws(Running, Error),
     Closes(Closing, u32),
 }
@@ -47,21 +48,14 @@ fn past(g: Running) -> Running
     ensures { result ≡ past_of g }
 {
     Running {
-        base: g.base,
-        locals: g.locals,
-        handlers: g.handlers,
-        stack: g.stack,
         place: g.place + 1,
+        ..g
     }
 }
 
 // Opcodes that are done at once, one after the other, while neither slice nor ticks run out: a loop of so few opcodes stays in the processor's registers. What comes then is left to `step`.
 fn run_quick(
-    image: &[u8],
-    rows: &[u32],
-    constants: &[u32],
-    inner: &[u32],
-    codes: usize,
+    program: &lookups::Program,
     state: &[u8],
     live: &mut [u8],
     store: &[u8],
@@ -72,10 +66,11 @@ fn run_quick(
     begun: u32,
     given: u32,
 ) -> Slice
-    requires { Sliceable (program_in image.now rows.now constants.now inner.now codes) first handle code used state.now live.old store.now }
-    ensures { Quickens (program_in image.now rows.now constants.now inner.now codes) first handle code used begun given result state.now live.old store.now live.new }
+    requires { Sliceable (program_of program.now) first handle code used state.now live.old store.now }
+    ensures { Quickens (program_of program.now) first handle code used begun given result state.now live.old store.now live.new }
 {
-    let start = program::entry(rows, 10 * code) + 14;
+    let image = program.image;
+    let start = program::entry(program.rows, 10 * code) + 14;
     let mut g = first;
     let mut left = begun;
     let mut ticks = given;
@@ -84,20 +79,7 @@ fn run_quick(
             return sliced(End::Paused, g, used, left, ticks);
         }
         let o = program::opcode_at(image, start, g.place);
-        match steps::quick_step(
-            image,
-            rows,
-            constants,
-            inner,
-            codes,
-            live,
-            store,
-            past(g),
-            handle,
-            code,
-            used,
-            o,
-        ) {
+        match steps::quick_step(program, live, store, past(g), handle, code, used, o) {
             Quick::Goes(h) => {
                 g = h;
                 ticks -= 1;
@@ -115,11 +97,7 @@ fn run_quick(
 
 // The opcodes of the frame g of a closure, as many as the slice and the ticks allow.
 pub fn run_slice(
-    image: &[u8],
-    rows: &[u32],
-    constants: &[u32],
-    inner: &[u32],
-    codes: usize,
+    program: &lookups::Program,
     state: &mut [u8],
     live: &mut [u8],
     store: &mut [u8],
@@ -130,8 +108,8 @@ pub fn run_slice(
     begun: u32,
     given: u32,
 ) -> Slice
-    requires { Sliceable (program_in image.now rows.now constants.now inner.now codes) first handle code taken state.old live.old store.old }
-    ensures { Slices (program_in image.now rows.now constants.now inner.now codes) first handle code taken begun given result state.old live.old store.old state.new live.new store.new }
+    requires { Sliceable (program_of program.now) first handle code taken state.old live.old store.old }
+    ensures { Slices (program_of program.now) first handle code taken begun given result state.old live.old store.old state.new live.new store.new }
 {
     let mut g = first;
     let mut used = taken;
@@ -139,8 +117,7 @@ pub fn run_slice(
     let mut ticks = given;
     while ticks > 0 {
         let q = run_quick(
-            image, rows, constants, inner, codes, state, live, store, g, handle, code, used, left,
-            ticks,
+            program, state, live, store, g, handle, code, used, left, ticks,
         );
         g = q.g;
         left = q.left;
@@ -148,22 +125,8 @@ pub fn run_slice(
         if ticks == 0 {
             return sliced(End::Paused, g, used, left, ticks);
         }
-        let o = lookups::opcode(image, rows, code, g.place);
-        match steps::step(
-            image,
-            rows,
-            constants,
-            inner,
-            codes,
-            state,
-            live,
-            store,
-            past(g),
-            handle,
-            code,
-            used,
-            o,
-        ) {
+        let o = program.opcode(code, g.place);
+        match steps::step(program, state, live, store, past(g), handle, code, used, o) {
             After::On(h, u) => {
                 g = h;
                 used = u;

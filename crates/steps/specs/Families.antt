@@ -1,5 +1,5 @@
 -- One law for each answer of the families: what an opcode's own function leaves is what its number asks for.
-use Rattle.std.specs.Prelude.{◌≡◌, List, [], ◌⊎◌, ℕ, ◌+◌, ◌<◌, ◌≤◌, length, get_or}
+use Rattle.std.specs.Prelude.{◌≡◌, List, [], ◌⊎◌, ℕ, ◌+◌, ◌<◌, ◌≤◌, length, get_or, Result, Ok, Err}
 use Rattle.std.proofs.Math.Path.{refl, ap}
 use Rattle.std.proofs.Common.{sym, subst, ◌∙◌, arith}
 use Rattle.std.proofs.Math.Logic.{⊎_elim}
@@ -28,7 +28,7 @@ use Rattle.plan.specs.declared.Error.{Error}
 use Rattle.plan.specs.declared.Next.{Next}
 use Rattle.plan.specs.declared.Next.TheVariants as next
 use Rattle.makes.specs.declared.Made.{Made}
-use Rattle.makes.specs.declared.Made.TheVariants as made
+use Rattle.refusals.specs.declared.Refusal.{Refusal}
 use Rattle.makes.specs.Made as m
 use Rattle.makes.specs.Made.{Closable, MakesClosure, SetsGlobal}
 use Rattle.steps.specs.Stepped.{Chosen, Ready, ReadyWith, Steps, StaysOn, after_next, after_made}
@@ -39,6 +39,7 @@ use Rattle.steps.specs.declared.Family.{Family}
 use Rattle.steps.specs.declared.Family.TheVariants.{Closes, LeftOut}
 use Rattle.steps.specs.declared.After.{After}
 use Rattle.steps.specs.declared.After.TheVariants.{On, Jumped, Throws, Stops, Closing}
+use Rattle.refusals.specs.declared.Refusal.TheVariants.{ImageNumber}
 
 -- ---- The number of an opcode, by what was chosen
 pub numbered : {f : Family} (op : ℕ) (k : Family) → f ≡ k → Chosen f op → Chosen k op
@@ -154,7 +155,7 @@ module _ (image rows constants inner : List ℕ) (codes : ℕ) {g : registers.Ru
       }
 
 module _ (image rows constants inner : List ℕ) (codes : ℕ) {g : registers.Running} {handle code u x : ℕ} {live store live' : List ℕ} {a : After} {c : Constant} (e : c ≡ get_or (code_at image rows constants [] code).constants x no_constant) where
-  pub closure_steps : {b : List ℕ} {j k : ℕ} {n : Made} {store' : List ℕ} → c.kind ≡ 22 → b ≡ bytes_of image c → j ≡ le_at 2 b 0 → k ≡ get_or (code_at [] rows [] inner code).codes j 0
+  pub closure_steps : {b : List ℕ} {j k : ℕ} {n : Result Made Refusal} {store' : List ℕ} → c.kind ≡ 22 → b ≡ bytes_of image c → j ≡ le_at 2 b 0 → k ≡ get_or (code_at [] rows [] inner code).codes j 0
       → MakesClosure (program_in image rows constants inner codes) g handle u x k n live store live' store' → a ≡ after_made n
       → (state : List ℕ) → Steps (program_in image rows constants inner codes) g handle code u (load_const x) a state live store state live' store'
   unfolding operand_kind
@@ -186,7 +187,7 @@ module _ {P : Program} {g : registers.Running} {handle code u : ℕ} {o : Op} {l
         → Steps P g handle code u o a state live store state live' store'
     const_made e h = subst (λ (p : Op). Steps P g handle code u p a state live store state live' store') (sym (load_const_is o e)) (h state)
 
-    pub list_made : {n : Made} → o.number ≡ 10 → ((P : Program) → m.Makes P 10 o.operand g u n live store live' store') → a ≡ after_made n
+    pub list_made : {n : Result Made Refusal} → o.number ≡ 10 → ((P : Program) → m.Makes P 10 o.operand g u n live store live' store') → a ≡ after_made n
         → Steps P g handle code u o a state live store state live' store'
     list_made {n} e d r =
         makes_steps n state u (λ z m s y t. rw e ((d P).next z m s y.inside t)) (d P).same_live (d P).appends r
@@ -209,7 +210,7 @@ module _ {P : Program} {g : registers.Running} {handle code u : ℕ} {o : Op} {f
     appends = appends_refl u store;
   }
 
-  pub left_out_steps : Chosen f o.number → f ≡ LeftOut → Steps P g handle code u o (Stops 3) state live store state live store
+  pub left_out_steps : Chosen f o.number → f ≡ LeftOut → Steps P g handle code u o (Stops ImageNumber) state live store state live store
   unfolding outcome
   left_out_steps w e = record {
     next = λ z m r y b q.
@@ -237,12 +238,12 @@ module _ {n : Next} (u : ℕ) where
   pub next_throws : {g : registers.Running} {x : Error} → n ≡ next.Throws g x → Throws g x ≡ after_next n u
   next_throws e = rw e
 
-  pub next_stops : {k : ℕ} → n ≡ next.Stops k → Stops k ≡ after_next n u
+  pub next_stops : {k : Refusal} → n ≡ next.Stops k → Stops k ≡ after_next n u
   next_stops e = rw e
 
-module _ {n : Made} where
-  pub made_on : {g : registers.Running} {u : ℕ} → n ≡ made.On g u → On g u ≡ after_made n
+module _ {n : Result Made Refusal} where
+  pub made_on : {y : Made} → n ≡ Ok y → On y.g y.used ≡ after_made n
   made_on e = rw e
 
-  pub made_refused : {k : ℕ} → n ≡ made.Refused k → Stops k ≡ after_made n
+  pub made_refused : {k : Refusal} → n ≡ Err k → Stops k ≡ after_made n
   made_refused e = rw e

@@ -24,6 +24,7 @@ use Rattle.steps.specs.Families.{does_as, load_const, load_const_is}
 use Rattle.steps.specs.declared.After.TheVariants as after
 use Rattle.steps.specs.declared.Quick.{Quick}
 use Rattle.steps.specs.declared.Quick.TheVariants.{Goes, Jumps, Other}
+use Rattle.refusals.specs.declared.Refusal.{Refusal}
 
 abbrev pub quick_next : Next → Quick
 quick_next (next.Goes g) = Goes g
@@ -49,7 +50,7 @@ module _ {n : Next} where
   pub quick_throws : {g : registers.Running} {x : Error} → n ≡ next.Throws g x → Other ≡ quick_next n
   quick_throws e = rw e
 
-  pub quick_stops : {k : ℕ} → n ≡ next.Stops k → Other ≡ quick_next n
+  pub quick_stops : {k : Refusal} → n ≡ next.Stops k → Other ≡ quick_next n
   quick_stops e = rw e
 
 -- what an opcode does, where what it asks for is given

@@ -1,5 +1,5 @@
 -- One opcode of the frame that runs: what is chosen by its number, and what it leaves.
-use Rattle.std.specs.Prelude.{◌≡◌, List, ℕ, ◌+◌, ◌<◌, ◌≤◌, get_or}
+use Rattle.std.specs.Prelude.{◌≡◌, List, ℕ, ◌+◌, ◌<◌, ◌≤◌, get_or, Result, Ok, Err}
 use Rattle.cells.specs.Cells.{room, cells}
 use Rattle.cells.specs.declared.Cell.{Cell}
 use Rattle.image.specs.Program.{no_op}
@@ -16,7 +16,8 @@ use Rattle.plan.specs.Inside.{Inside, Threw, Nexts}
 use Rattle.plan.specs.declared.Next.{Next}
 use Rattle.plan.specs.declared.Next.TheVariants as next
 use Rattle.makes.specs.declared.Made.{Made}
-use Rattle.makes.specs.declared.Made.TheVariants as made
+use Rattle.refusals.specs.declared.Refusal.{Refusal}
+use Rattle.refusals.specs.Refusals.{number}
 use Rattle.steps.specs.declared.Stack.{Stack}
 use Rattle.steps.specs.declared.Stack.TheVariants.{Pop, Copy, Swap, LoadLocal, LoadGlobal, LoadUpvalue, StoreLocal}
 use Rattle.steps.specs.declared.Operator.{Operator}
@@ -127,7 +128,7 @@ Stepped P z m r handle code u o (Jumped g) state live store state' live' store' 
 Stepped P z m r handle code u o (Throws g x) state live store state' live' store' =
     Threw (λ (y : v.Error) (F : List Frame). next_action P m m.frames ≡ takes (throws y F)) r x g (cells live) × Untouched state live store state' live' store'
 Stepped P z m r handle code u o (Stops n) state live store state' live' store' =
-    (outcome P z (next_action P m m.frames) m ≡ stops n) × Untouched state live store state' live' store'
+    (outcome P z (next_action P m m.frames) m ≡ stops (number n)) × Untouched state live store state' live' store'
 Stepped P z m r handle code u o (Closing k) state live store state' live' store' = ClosingNumber k o.number × Untouched state live store state' live' store'
 
 -- how many cells of the store are used then
@@ -155,6 +156,6 @@ after_next (next.Jumps g) u = Jumped g
 after_next (next.Throws g x) u = Throws g x
 after_next (next.Stops n) u = Stops n
 
-abbrev pub after_made : Made → After
-after_made (made.On g u) = On g u
-after_made (made.Refused n) = Stops n
+abbrev pub after_made : Result Made Refusal → After
+after_made (Ok y) = On y.g y.used
+after_made (Err n) = Stops n

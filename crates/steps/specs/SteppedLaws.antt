@@ -1,5 +1,5 @@
 -- What the families leave is what an opcode leaves: memory has the machine that the next step leads to.
-use Rattle.std.specs.Prelude.{◌≡◌, ℕ, ◌+◌, ◌/◌, ◌<◌, length, get_or}
+use Rattle.std.specs.Prelude.{◌≡◌, ℕ, ◌+◌, ◌/◌, ◌<◌, length, get_or, Result, Ok, Err}
 use Rattle.std.proofs.Math.Path.{refl, ap}
 use Rattle.std.proofs.Common.{sym, ◌∙◌}
 use mathlib.Core.List.{List, [], ◌∷◌, ◌++◌, append-nil}
@@ -24,7 +24,7 @@ use Rattle.plan.specs.Inside.{Inside, Went, left, Nexts, Does}
 use Rattle.plan.specs.declared.Next.{Next}
 use Rattle.plan.specs.declared.Next.TheVariants.{Goes, Jumps, Throws, Stops}
 use Rattle.makes.specs.declared.Made.{Made}
-use Rattle.makes.specs.declared.Made.TheVariants.{On, Refused}
+use Rattle.refusals.specs.declared.Refusal.{Refusal}
 use Rattle.makes.specs.Made.{Mades, used_by, Sets}
 use Rattle.steps.specs.Stepped.{Given, SteppedOn, Stepped, used_after, Steps, StaysOn, after_next, after_made}
 use Rattle.steps.specs.declared.After.{After}
@@ -159,11 +159,11 @@ pub does_stays : {P : Program} {g : registers.Running} (handle code : ℕ) {o : 
 does_stays handle code state store d = record { next = λ z m r y b. d.next z m r _ tt y.inside; same = d.same }
 
 -- ---- Opcodes that make an object or set a global
-used_made : (n : Made) (u : ℕ) → used_after u (after_made n) ≡ used_by u n
-used_made (On g w) u = refl
-used_made (Refused k) u = refl
+used_made : (n : Result Made Refusal) (u : ℕ) → used_after u (after_made n) ≡ used_by u n
+used_made (Ok y) u = refl
+used_made (Err k) u = refl
 
-pub makes_steps : {P : Program} {g : registers.Running} {handle code : ℕ} {o : Op} (n : Made) {a : After} (state : List ℕ) {live store live' store' : List ℕ} (u : ℕ)
+pub makes_steps : {P : Program} {g : registers.Running} {handle code : ℕ} {o : Op} (n : Result Made Refusal) {a : After} (state : List ℕ) {live store live' store' : List ℕ} (u : ℕ)
     → ((z : Sizes) (m : M) (r : Running) → Given P z m r g handle code o (cells live) (cells store) → u ≡ used m.store → Mades P z o.number o.operand m r n live store live' store')
     → Same live live' → Appends u (used_by u n) store store' → a ≡ after_made n → Steps P g handle code u o a state live store state live' store'
 unfolding stepped_inside pace_of
@@ -174,9 +174,9 @@ makes_steps {P} {g} {handle} {code} {o} n state {live} {store} {live'} {store'} 
   appends = rw (used_made n u) t;
 })
   where
-    by : (n : Made) (z : Sizes) (m : M) (r : Running) → Given P z m r g handle code o (cells live) (cells store) → Block m (cells state) → Mades P z o.number o.operand m r n live store live' store'
+    by : (n : Result Made Refusal) (z : Sizes) (m : M) (r : Running) → Given P z m r g handle code o (cells live) (cells store) → Block m (cells state) → Mades P z o.number o.operand m r n live store live' store'
         → Stepped P z m r handle code u o (after_made n) state live store state live' store'
-    by (On g' w) z m r y b d =
+    by (Ok o) z m r y b d =
         let F = left r d.place d.locals d.stack d.handlers in
         record {
           action = makes d.object F;
@@ -192,7 +192,7 @@ makes_steps {P} {g} {handle} {code} {o} n state {live} {store} {live'} {store'} 
           uses = d.uses;
           block = record { stale = b.stale; is = b.is; globals = b.globals; builtins = b.builtins; result = b.result };
         }
-    by (Refused k) z m r y b d = (ap (λ (x : Taken). outcome P z x m) (next_is y) ∙ d.0, record { state_is = refl; live_is = d.1; store_is = d.2 })
+    by (Err k) z m r y b d = (ap (λ (x : Taken). outcome P z x m) (next_is y) ∙ d.0, record { state_is = refl; live_is = d.1; store_is = d.2 })
 
 pub sets_steps : {P : Program} {g : registers.Running} {handle code : ℕ} {o : Op} (n : Next) {a : After} {state state' : List ℕ} (live store : List ℕ) (u : ℕ)
     → ((z : Sizes) (m : M) (r : Running) → Given P z m r g handle code o (cells live) (cells store) → Block m (cells state) → Sets P z o.operand m r n live state state')

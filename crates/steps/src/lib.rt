@@ -4,7 +4,7 @@
 ghost use Rattle.std.specs.Prelude.{◌≡◌, List, ℕ, ◌≤◌, length};
 ghost use Rattle.cells.specs.Cells.{room};
 ghost use Rattle.moves.specs.Runs.{end_of};
-ghost use Rattle.scan.specs.Tables.{program_in};
+ghost use Rattle.scan.specs.Tables.{program_of};
 ghost use Rattle.plan.specs.Inside.{Does};
 ghost use Rattle.steps.specs.declared.Family.TheVariants.{OnStack, Computes, Moves, Makes};
 ghost use Rattle.steps.specs.Quickly.{quick_next, Quickly};
@@ -14,6 +14,7 @@ use image::Op;
 use makes::Made;
 use moves::Running;
 use plan::{Error, Next};
+use refusals::Refusal;
 
 // Opcodes that change nothing but the stack and the locals of their frame.
 #[derive(Clone, Copy)]
@@ -78,7 +79,7 @@ pub enum After {
     On(Running, usize),
     Jumped(Running),
     Throws(Running, Error),
-    Stops(u32),
+    Stops(Refusal),
     Closing(Closing),
 }
 
@@ -124,11 +125,7 @@ fn choose(op: u16) -> Family
 
 fn stack_opcode(
     k: Stack,
-    image: &[u8],
-    rows: &[u32],
-    constants: &[u32],
-    inner: &[u32],
-    codes: usize,
+    program: &lookups::Program,
     state: &[u8],
     live: &mut [u8],
     store: &[u8],
@@ -137,8 +134,8 @@ fn stack_opcode(
     code: usize,
     o: Op,
 ) -> Next
-    requires { Ready (program_in image.now rows.now constants.now inner.now codes) g handle code o live.old store.now × Chosen (OnStack k) o.number × (length state.now ≡ 8256) }
-    ensures { StaysOn (program_in image.now rows.now constants.now inner.now codes) g handle code o result state.now live.old store.now live.new }
+    requires { Ready (program_of program.now) g handle code o live.old store.now × Chosen (OnStack k) o.number × (length state.now ≡ 8256) }
+    ensures { StaysOn (program_of program.now) g handle code o result state.now live.old store.now live.new }
 {
     let x = o.operand;
     match k {
@@ -151,7 +148,7 @@ fn stack_opcode(
             live,
             g,
             x,
-            lookups::global(image, rows, code, x as usize),
+            program.global(code, x as usize),
         ),
         Stack::LoadUpvalue => loads::load_upvalue(store, live, g, handle, x),
         Stack::StoreLocal => loads::store_local(live, g, x),
@@ -160,40 +157,26 @@ fn stack_opcode(
 
 fn operator_opcode(
     k: Operator,
-    image: &[u8],
-    rows: &[u32],
-    constants: &[u32],
-    inner: &[u32],
-    codes: usize,
+    program: &lookups::Program,
     live: &mut [u8],
     g: Running,
     o: Op,
 ) -> Next
     requires { (end_of g ≤ room live.old) × Chosen (Computes k) o.number }
-    ensures { Does (program_in image.now rows.now constants.now inner.now codes) o.number o.operand g result live.old live.new }
+    ensures { Does (program_of program.now) o.number o.operand g result live.old live.new }
 {
     let op = o.number;
     let x = o.operand;
     match k {
         Operator::Unary => operators::unary(live, g, op, x),
-        Operator::Binary => operators::binary(image, rows, constants, inner, codes, live, g, op, x),
+        Operator::Binary => operators::binary(program, live, g, op, x),
         Operator::TypeCheck => operators::type_check(live, g, x),
     }
 }
 
-fn jump_opcode(
-    k: Jump,
-    image: &[u8],
-    rows: &[u32],
-    constants: &[u32],
-    inner: &[u32],
-    codes: usize,
-    live: &mut [u8],
-    g: Running,
-    o: Op,
-) -> Next
+fn jump_opcode(k: Jump, program: &lookups::Program, live: &mut [u8], g: Running, o: Op) -> Next
     requires { (end_of g ≤ room live.old) × Chosen (Moves k) o.number }
-    ensures { Does (program_in image.now rows.now constants.now inner.now codes) o.number o.operand g result live.old live.new }
+    ensures { Does (program_of program.now) o.number o.operand g result live.old live.new }
 {
     let op = o.number;
     let x = o.operand;
@@ -202,10 +185,8 @@ fn jump_opcode(
         Jump::PopIfNull => jumps::jump_pop_if_null(live, g, x),
         Jump::PopIf => jumps::pop_jump_if(live, g, op, x),
         Jump::IfOrPop => jumps::jump_if_or_pop(live, g, op, x),
-        Jump::RegisterHandler => {
-            jumps::register_handler(image, rows, constants, inner, codes, live, g, x)
-        }
-        Jump::CheckEffect => jumps::check_effect(image, rows, constants, inner, codes, live, g, x),
+        Jump::RegisterHandler => { jumps::register_handler(program, live, g, x) }
+        Jump::CheckEffect => jumps::check_effect(program, live, g, x),
         Jump::Nop => jumps::nop(g),
     }
 }
@@ -218,26 +199,22 @@ fn from_next(n: Next, used: usize) -> After
         Next::Goes(g) => After::On(g, used),
         Next::Jumps(g) => After::Jumped(g),
         Next::Throws(g, x) => After::Throws(g, x),
-        Next::Stops(code) => After::Stops(code),
+        Next::Stops(refusal) => After::Stops(refusal),
     }
 }
 
-fn from_made(n: Made) -> After
+fn from_made(n: Result<Made, Refusal>) -> After
     ensures { result ≡ after_made n }
 {
     match n {
-        Made::On(g, used) => After::On(g, used),
-        Made::Refused(code) => After::Stops(code),
+        Ok(made) => After::On(made.g, made.used),
+        Err(refusal) => After::Stops(refusal),
     }
 }
 
 // 6 `LoadConst`: a Function becomes a closure.
 fn load_const(
-    image: &[u8],
-    rows: &[u32],
-    constants: &[u32],
-    inner: &[u32],
-    codes: usize,
+    program: &lookups::Program,
     live: &mut [u8],
     store: &mut [u8],
     g: Running,
@@ -246,27 +223,24 @@ fn load_const(
     used: usize,
     x: u32,
 ) -> After
-    requires { ReadyWith (program_in image.now rows.now constants.now inner.now codes) g handle code used (record { number = 6; operand = x }) live.old store.old }
-    ensures { (state : List ℕ) → Steps (program_in image.now rows.now constants.now inner.now codes) g handle code used (record { number = 6; operand = x }) result state live.old store.old state live.new store.new }
+    requires { ReadyWith (program_of program.now) g handle code used (record { number = 6; operand = x }) live.old store.old }
+    ensures { (state : List ℕ) → Steps (program_of program.now) g handle code used (record { number = 6; operand = x }) result state live.old store.old state live.new store.new }
 {
-    let c = lookups::constant(image, rows, constants, code, x as usize);
+    let c = program.constant(code, x as usize);
     if c.kind == 22 {
-        let j = program::le16(contents::content(image, c), 0) as usize;
-        let k = lookups::inner_code(rows, inner, code, j);
-        return from_made(makes::make_closure(
-            image, rows, constants, inner, codes, live, store, g, handle, used, x, k,
-        ));
+        let j = program::le16(contents::content(program.image, c), 0) as usize;
+        let k = program.inner_code(code, j);
+        return from_made(makes::make_closure(program, live, store, g, handle, used, x, k));
     }
-    from_next(loads::load_const(image, live, g, code as u32, x, c), used)
+    from_next(
+        loads::load_const(program.image, live, g, code as u32, x, c),
+        used,
+    )
 }
 
 fn making_opcode(
     k: Making,
-    image: &[u8],
-    rows: &[u32],
-    constants: &[u32],
-    inner: &[u32],
-    codes: usize,
+    program: &lookups::Program,
     state: &mut [u8],
     live: &mut [u8],
     store: &mut [u8],
@@ -276,22 +250,14 @@ fn making_opcode(
     used: usize,
     o: Op,
 ) -> After
-    requires { ReadyWith (program_in image.now rows.now constants.now inner.now codes) g handle code used o live.old store.old × Chosen (Makes k) o.number × (length state.old ≡ 8256) }
-    ensures { Steps (program_in image.now rows.now constants.now inner.now codes) g handle code used o result state.old live.old store.old state.new live.new store.new }
+    requires { ReadyWith (program_of program.now) g handle code used o live.old store.old × Chosen (Makes k) o.number × (length state.old ≡ 8256) }
+    ensures { Steps (program_of program.now) g handle code used o result state.old live.old store.old state.new live.new store.new }
 {
     let x = o.operand;
     match k {
-        Making::LoadConst => load_const(
-            image, rows, constants, inner, codes, live, store, g, handle, code, used, x,
-        ),
+        Making::LoadConst => load_const(program, live, store, g, handle, code, used, x),
         Making::StoreGlobal => from_next(
-            makes::store_global(
-                state,
-                live,
-                g,
-                x,
-                lookups::global(image, rows, code, x as usize),
-            ),
+            makes::store_global(state, live, g, x, program.global(code, x as usize)),
             used,
         ),
         Making::BuildList => from_made(makes::build_list(live, store, g, used, x)),
@@ -300,11 +266,7 @@ fn making_opcode(
 
 // One opcode of the frame in registers, whose place is already past it, by its family.
 pub fn step(
-    image: &[u8],
-    rows: &[u32],
-    constants: &[u32],
-    inner: &[u32],
-    codes: usize,
+    program: &lookups::Program,
     state: &mut [u8],
     live: &mut [u8],
     store: &mut [u8],
@@ -314,29 +276,19 @@ pub fn step(
     used: usize,
     o: Op,
 ) -> After
-    requires { ReadyWith (program_in image.now rows.now constants.now inner.now codes) g handle code used o live.old store.old × (length state.old ≡ 8256) }
-    ensures { Steps (program_in image.now rows.now constants.now inner.now codes) g handle code used o result state.old live.old store.old state.new live.new store.new }
+    requires { ReadyWith (program_of program.now) g handle code used o live.old store.old × (length state.old ≡ 8256) }
+    ensures { Steps (program_of program.now) g handle code used o result state.old live.old store.old state.new live.new store.new }
 {
     match choose(o.number) {
         Family::OnStack(k) => from_next(
-            stack_opcode(
-                k, image, rows, constants, inner, codes, state, live, store, g, handle, code, o,
-            ),
+            stack_opcode(k, program, state, live, store, g, handle, code, o),
             used,
         ),
-        Family::Computes(k) => from_next(
-            operator_opcode(k, image, rows, constants, inner, codes, live, g, o),
-            used,
-        ),
-        Family::Moves(k) => from_next(
-            jump_opcode(k, image, rows, constants, inner, codes, live, g, o),
-            used,
-        ),
-        Family::Makes(k) => making_opcode(
-            k, image, rows, constants, inner, codes, state, live, store, g, handle, code, used, o,
-        ),
+        Family::Computes(k) => from_next(operator_opcode(k, program, live, g, o), used),
+        Family::Moves(k) => from_next(jump_opcode(k, program, live, g, o), used),
+        Family::Makes(k) => making_opcode(k, program, state, live, store, g, handle, code, used, o),
         Family::Closes(k) => After::Closing(k),
-        Family::LeftOut => After::Stops(3),
+        Family::LeftOut => After::Stops(Refusal::ImageNumber),
     }
 }
 
@@ -354,11 +306,7 @@ fn quick_next(n: Next) -> Quick
 
 // 6 `LoadConst` of an Int.
 fn quick_const(
-    image: &[u8],
-    rows: &[u32],
-    constants: &[u32],
-    inner: &[u32],
-    codes: usize,
+    program: &lookups::Program,
     live: &mut [u8],
     store: &[u8],
     g: Running,
@@ -367,23 +315,19 @@ fn quick_const(
     used: usize,
     x: u32,
 ) -> Quick
-    requires { ReadyWith (program_in image.now rows.now constants.now inner.now codes) g handle code used (record { number = 6; operand = x }) live.old store.now }
-    ensures { Quickly (program_in image.now rows.now constants.now inner.now codes) g handle code (record { number = 6; operand = x }) result live.old store.now live.new }
+    requires { ReadyWith (program_of program.now) g handle code used (record { number = 6; operand = x }) live.old store.now }
+    ensures { Quickly (program_of program.now) g handle code (record { number = 6; operand = x }) result live.old store.now live.new }
 {
-    let c = lookups::constant(image, rows, constants, code, x as usize);
+    let c = program.constant(code, x as usize);
     if c.kind == 18 {
-        return quick_next(loads::load_const(image, live, g, code as u32, x, c));
+        return quick_next(loads::load_const(program.image, live, g, code as u32, x, c));
     }
     Quick::Other
 }
 
 // The opcodes that a loop of arithmetic is made of, each in the case that goes on: so few that a loop over them stays in the processor's registers. Any other case is left to `step`.
 pub fn quick_step(
-    image: &[u8],
-    rows: &[u32],
-    constants: &[u32],
-    inner: &[u32],
-    codes: usize,
+    program: &lookups::Program,
     live: &mut [u8],
     store: &[u8],
     g: Running,
@@ -392,17 +336,15 @@ pub fn quick_step(
     used: usize,
     o: Op,
 ) -> Quick
-    requires { ReadyWith (program_in image.now rows.now constants.now inner.now codes) g handle code used o live.old store.now }
-    ensures { Quickly (program_in image.now rows.now constants.now inner.now codes) g handle code o result live.old store.now live.new }
+    requires { ReadyWith (program_of program.now) g handle code used o live.old store.now }
+    ensures { Quickly (program_of program.now) g handle code o result live.old store.now live.new }
 {
     let op = o.number;
     let x = o.operand;
     match op {
         0 => quick_next(loads::pop(g)),
         3 => quick_next(loads::load_local(live, g, x)),
-        6 => quick_const(
-            image, rows, constants, inner, codes, live, store, g, handle, code, used, x,
-        ),
+        6 => quick_const(program, live, store, g, handle, code, used, x),
         7 => quick_next(loads::store_local(live, g, x)),
         19 => quick_next(operators::arithmetic(live, g, 19, x)),
         20 => quick_next(operators::arithmetic(live, g, 20, x)),

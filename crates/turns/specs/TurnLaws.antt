@@ -2,7 +2,7 @@
 use Rattle.std.proofs.Math.Path.{◌≡◌, refl, sym, ap}
 use Rattle.std.proofs.Common.{subst, ◌∙◌, arith}
 use mathlib.Core.List.{List, [], ◌++◌}
-use Rattle.std.specs.Prelude.{Bool, true, false, ℕ, pos, length, take, drop}
+use Rattle.std.specs.Prelude.{Result, Ok, Err, Bool, true, false, ℕ, pos, length, take, drop}
 use Rattle.cells.specs.Le.{Bytes}
 use Rattle.cells.specs.Cells.{cells}
 use Rattle.cells.specs.declared.Cell.{Cell}
@@ -10,10 +10,9 @@ use Rattle.fuel.specs.Fuels.{consume, should_continue}
 use Rattle.fuel.specs.Loans.{read, write}
 use Rattle.fuel.specs.LoanLaws.{write_read}
 use Rattle.fuel.specs.declared.Fuel.{Fuel}
-use Rattle.fuel.specs.declared.Loan.{Loan}
-use Rattle.fuel.specs.declared.Loan.TheVariants as loan
-use Rattle.layout.specs.declared.Read.{Read}
-use Rattle.layout.specs.declared.Read.TheVariants as reads
+use Rattle.refusals.specs.declared.Refusal.{Refusal}
+use Rattle.refusals.specs.Refusals.{number}
+use Rattle.layout.specs.declared.Sizes as tables
 use Rattle.machine.specs.Values.{Program}
 use Rattle.machine.specs.Machine.{used}
 use Rattle.machine.specs.Calls.{Outcome, does, stops, World, Trace, no_fuel, steps_of, answer_of, fuel_after, world_after}
@@ -22,6 +21,7 @@ use Rattle.form.specs.Entry.{view_of, store_of, Enters}
 use Rattle.requests.specs.Sent.{Sent, starting, answering, sent_outcome, sent_trace}
 use Rattle.requests.specs.SentLaws.{Lent, done_code, done_fuel, sent_stops, sent_does}
 use Rattle.requests.specs.Asked.{Leaves, SentWorld}
+use Rattle.requests.specs.FinishLaws.{some}
 use Rattle.loans.specs.Loans.{used_bytes, front_live, front_store, sizes_of}
 use Rattle.loans.specs.LoanLaws.{loans_back, whole, length_whole}
 use Rattle.loans.specs.EntryLaws.{live_cells_lem, store_cells, front_sizes, tabled, un_entered, is_entered, is_ready_lem, un_lent, lent_un_entered, lent_entered}
@@ -37,10 +37,10 @@ loans_sent {P} {q} {r} {state} live store el es {state'} w a b =
     record { sent = x.0; behind_live = x.1; behind_store = x.2 }
 
 -- ---- What is sent and entered, as a call
-module _ (image state live store : List ℕ) {x : Read} {rows constants inner : List ℕ} (y : Enters image state live store x rows constants inner) {c u k : ℕ} (a : x ≡ reads.Accepted c u k)
-    {s : Sent} {r : ℕ} {state' live' store' : List ℕ} (l : SentLoans (tabled image rows constants inner c u k) s r state live store state' live' store') where
+module _ (image state live store : List ℕ) {x : Result tables.Sizes Refusal} {rows constants inner : List ℕ} (y : Enters image state live store x rows constants inner) {h : tables.Sizes} (a : x ≡ Ok h)
+    {s : Sent} {r : ℕ} {state' live' store' : List ℕ} (l : SentLoans (tabled image rows constants inner h.codes h.constants h.inner) s r state live store state' live' store') where
   abbrev P : Program
-  P = tabled image rows constants inner c u k
+  P = tabled image rows constants inner h.codes h.constants h.inner
 
   abbrev w : World
   w = view_of state live store
@@ -97,7 +97,7 @@ module _ (image state live store : List ℕ) {x : Read} {rows constants inner : 
             }
 
     -- and its fuel is charged, or left
-    sent_fuel : (F F' : List ℕ) → Bytes F → read F ≡ loan.Held fuel → (r ≡ 0 → F' ≡ write F (done_fuel fuel s)) → ((r ≡ 0 → ⊥) → F' ≡ F) → (F' ≡ write F (fuel_after trace)) × (steps_of trace ≡ [] → F' ≡ F)
+    sent_fuel : (F F' : List ℕ) → Bytes F → read F ≡ Ok fuel → (r ≡ 0 → F' ≡ write F (done_fuel fuel s)) → ((r ≡ 0 → ⊥) → F' ≡ F) → (F' ≡ write F (fuel_after trace)) × (steps_of trace ≡ [] → F' ≡ F)
     unfolding steps_of fuel_after
     sent_fuel F F' bytes f g h = by o refl leaves
       where
@@ -111,36 +111,38 @@ module _ (image state live store : List ℕ) {x : Read} {rows constants inner : 
             (rw t.0 (kept ∙ sym (write_read F fuel bytes f)), λ none. kept)
 
 -- ---- The returns of a start: memory that is refused, and what was sent
-module _ (image : List ℕ) (f : Cell) (args state live store : List ℕ) {x : Read} {rows constants inner : List ℕ} (y : Enters image state live store x rows constants inner) where
-  pub start_unentered : {n : ℕ} → x ≡ reads.Refused n → StartCalled image f args n state live store state live store
-  start_unentered a = record { does = rw (un_entered image state live store y a) (refl, refl, refl, refl) }
+module _ (image : List ℕ) (f : Cell) (args state live store : List ℕ) {x : Result tables.Sizes Refusal} {rows constants inner : List ℕ} (y : Enters image state live store x rows constants inner) where
+  pub start_unentered : {r : Refusal} {n : ℕ} → x ≡ Err r → n ≡ number r → StartCalled image f args n state live store state live store
+  start_unentered a m = record { does = rw (m, un_entered image state live store y a) (refl, refl, refl, refl) }
 
-  pub start_sent : {c u k : ℕ} → x ≡ reads.Accepted c u k → {r : ℕ} {state' live' store' : List ℕ} → SentLoans (tabled image rows constants inner c u k) (starting f args) r state live store state' live' store'
-      → StartCalled image f args r state live store state' live' store'
-  start_sent a l = record { does = rw (is_entered image state live store y a) (sent_done image state live store y a l no_fuel refl (λ e. e) (λ _. refl)) }
+  pub start_sent : {h : tables.Sizes} → x ≡ Ok h → {r n : ℕ} {state' live' store' : List ℕ} → SentLoans (tabled image rows constants inner h.codes h.constants h.inner) (starting f args) r state live store state' live' store' → n ≡ r
+      → StartCalled image f args n state live store state' live' store'
+  start_sent a l q = record { does = rw (q, is_entered image state live store y a) (sent_done image state live store y a l no_fuel refl (λ e. e) (λ _. refl)) }
 
 -- ---- The returns of an answer: a loan of fuel that is refused, memory that is refused, what was sent and refused, and what was done
-module _ (image : List ℕ) (kind word : ℕ) (v : Cell) (args handlers state live store fuel : List ℕ) {b : Loan} (w : b ≡ read fuel) where
+module _ (image : List ℕ) (kind word : ℕ) (v : Cell) (args handlers state live store fuel : List ℕ) {b : Result Fuel Refusal} (w : b ≡ read fuel) where
   abbrev Called : ℕ → List ℕ → List ℕ → List ℕ → List ℕ → Type 0
   Called n state' live' store' fuel' = AnswerCalled image kind word v args handlers n state live store fuel state' live' store' fuel'
 
-  pub answer_unlent : {n : ℕ} → b ≡ loan.Refused n → Called n state live store fuel
-  answer_unlent e = record { does = rw (un_lent image state live store fuel w e) (refl, refl, refl, refl, refl) }
+  pub answer_unlent : {r : Refusal} {n : ℕ} → b ≡ Err r → n ≡ number r → Called n state live store fuel
+  answer_unlent e q = record { does = rw (un_lent image state live store fuel w e, q) (refl, refl, refl, refl, refl) }
 
-  module _ {f : Fuel} (e : b ≡ loan.Held f) {x : Read} {rows constants inner : List ℕ} (y : Enters image state live store x rows constants inner) where
-    pub answer_unentered : {n : ℕ} → x ≡ reads.Refused n → Called n state live store fuel
-    answer_unentered a = record { does = rw (lent_un_entered image state live store fuel w e y a) (refl, refl, refl, refl, refl) }
+  module _ {f : Fuel} (e : b ≡ Ok f) {x : Result tables.Sizes Refusal} {rows constants inner : List ℕ} (y : Enters image state live store x rows constants inner) where
+    pub answer_unentered : {r : Refusal} {n : ℕ} → x ≡ Err r → n ≡ number r → Called n state live store fuel
+    answer_unentered a m = record { does = rw (m, lent_un_entered image state live store fuel w e y a) (refl, refl, refl, refl, refl) }
 
-    module _ {c u k : ℕ} (a : x ≡ reads.Accepted c u k) {r : ℕ} {state' live' store' : List ℕ}
-        (l : SentLoans (tabled image rows constants inner c u k) (answering kind word v args handlers) r state live store state' live' store') (bytes : Bytes fuel) where
+    module _ {h : tables.Sizes} (a : x ≡ Ok h) {r : ℕ} {state' live' store' : List ℕ}
+        (l : SentLoans (tabled image rows constants inner h.codes h.constants h.inner) (answering kind word v args handlers) r state live store state' live' store') (bytes : Bytes fuel) where
       answer_called : {n : ℕ} {fuel' : List ℕ} → (r ≡ 0 → n ≡ done_code f (answering kind word v args handlers)) → ((r ≡ 0 → ⊥) → n ≡ r)
           → (r ≡ 0 → fuel' ≡ write fuel (consume f (pos 4))) → ((r ≡ 0 → ⊥) → fuel' ≡ fuel) → Called n state' live' store' fuel'
       answer_called {fuel' = fuel'} p q g h =
           let z = sent_fuel image state live store y a l f tt fuel fuel' bytes (sym w ∙ e) g h in
           record { does = rw (lent_entered image state live store fuel w e y a) (record { sent = sent_done image state live store y a l f tt p q; charges = z.0; spares = z.1 }) }
 
-      pub answer_refused : (r ≡ 0 → ⊥) → Called r state' live' store' fuel
-      answer_refused n = answer_called (λ z. absurd (n z)) (λ _. refl) (λ z. absurd (n z)) (λ _. refl)
+      pub answer_refused : (x : Refusal) {n : ℕ} → r ≡ number x → n ≡ number x → Called n state' live' store' fuel
+      answer_refused x q m =
+          let ne : r ≡ 0 → ⊥ = λ z. some x (sym q ∙ z) in
+          answer_called (λ z. absurd (ne z)) (λ _. m ∙ sym q) (λ z. absurd (ne z)) (λ _. refl)
 
       module _ (z : r ≡ 0) {g : Fuel} (d : g ≡ consume f (pos 4)) {fuel' : List ℕ} (i : fuel' ≡ write fuel g) where
         answer_done : {n : ℕ} → n ≡ done_code f (answering kind word v args handlers) → Called n state' live' store' fuel'

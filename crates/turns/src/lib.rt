@@ -3,7 +3,8 @@
 
 ghost use Rattle.std.specs.Prelude.{◌*◌, take};
 ghost use Rattle.reader.specs.Reads.{Fits};
-ghost use Rattle.scan.specs.Tables.{program_in};
+ghost use Rattle.scan.specs.Tables.{program_of};
+ghost use Rattle.refusals.specs.Refusals.{number_of};
 ghost use Rattle.requests.specs.Asked.{Entered};
 ghost use Rattle.requests.specs.Sent.{starting, answering};
 ghost use Rattle.loans.specs.Loans.{front_live, front_store};
@@ -11,42 +12,28 @@ ghost use Rattle.turns.specs.Loaned.{SentLoans};
 ghost use Rattle.turns.specs.Turned.{StartCalled, AnswerCalled};
 
 use cells::Cell;
-use fuel::Loan;
-use layout::Read;
+use refusals::Refusal;
 
-// A start over the whole loans, with tables of which only the front is filled.
+// What an answer that is done says: the run may go on, or it is out of fuel.
+const GO_ON: u32 = 104;
+
+const OUT_OF_FUEL: u32 = 101;
+
+// A start over the whole loans.
 fn start_entered(
-    image: &[u8],
-    rows: &[u32],
-    constants: &[u32],
-    inner: &[u32],
-    codes: usize,
-    used: usize,
-    kept: usize,
+    program: &lookups::Program,
     state: &mut [u8],
     live: &mut [u8],
     store: &mut [u8],
     f: Cell,
     args: &[u8],
-) -> u32
-    requires { Fits codes used kept rows.now constants.now inner.now × Entered (program_in image.now (take (10 * codes) rows.now) (take used constants.now) (take kept inner.now) codes) state.old (front_live live.old) (front_store store.old) }
-    ensures { SentLoans (program_in image.now (take (10 * codes) rows.now) (take used constants.now) (take kept inner.now) codes) (starting f args.now) result state.old live.old store.old state.new live.new store.new }
+) -> Result<(), Refusal>
+    requires { Entered (program_of program.now) state.old (front_live live.old) (front_store store.old) }
+    ensures { SentLoans (program_of program.now) (starting f args.now) (number_of result) state.old live.old store.old state.new live.new store.new }
 {
-    let end = 10 * codes;
     let l = loans::lent_bytes(live.len(), 65536);
     let s = loans::lent_bytes(store.len(), 1048576);
-    requests::start(
-        image,
-        &rows[..end],
-        &constants[..used],
-        &inner[..kept],
-        codes,
-        state,
-        &mut live[..l],
-        &mut store[..s],
-        f,
-        args,
-    )
+    requests::start(program, state, &mut live[..l], &mut store[..s], f, args)
 }
 
 // A start of a Function with arguments.
@@ -72,22 +59,17 @@ pub fn start(
         &mut constants,
         &mut inner,
     ) {
-        Read::Refused(n) => n,
-        Read::Accepted(codes, used, kept) => start_entered(
-            image, &rows, &constants, &inner, codes, used, kept, state, live, store, f, args,
-        ),
+        Err(refusal) => refusal.number(),
+        Ok(sizes) => {
+            let program = form::filled(image, &rows, &constants, &inner, sizes);
+            refusals::number_of(start_entered(&program, state, live, store, f, args))
+        }
     }
 }
 
-// An answer over the whole loans, with tables of which only the front is filled.
+// An answer over the whole loans.
 fn answer_entered(
-    image: &[u8],
-    rows: &[u32],
-    constants: &[u32],
-    inner: &[u32],
-    codes: usize,
-    used: usize,
-    kept: usize,
+    program: &lookups::Program,
     state: &mut [u8],
     live: &mut [u8],
     store: &mut [u8],
@@ -96,22 +78,17 @@ fn answer_entered(
     v: Cell,
     args: &[u8],
     handlers: &[u8],
-) -> u32
-    requires { Fits codes used kept rows.now constants.now inner.now × Entered (program_in image.now (take (10 * codes) rows.now) (take used constants.now) (take kept inner.now) codes) state.old (front_live live.old) (front_store store.old) }
-    ensures { SentLoans (program_in image.now (take (10 * codes) rows.now) (take used constants.now) (take kept inner.now) codes) (answering kind word v args.now handlers.now) result state.old live.old store.old state.new live.new store.new }
+) -> Result<(), Refusal>
+    requires { Entered (program_of program.now) state.old (front_live live.old) (front_store store.old) }
+    ensures { SentLoans (program_of program.now) (answering kind word v args.now handlers.now) (number_of result) state.old live.old store.old state.new live.new store.new }
 {
-    let end = 10 * codes;
-    let live_end = loans::lent_bytes(live.len(), 65536);
-    let store_end = loans::lent_bytes(store.len(), 1048576);
+    let l = loans::lent_bytes(live.len(), 65536);
+    let s = loans::lent_bytes(store.len(), 1048576);
     callbacks::answer(
-        image,
-        &rows[..end],
-        &constants[..used],
-        &inner[..kept],
-        codes,
+        program,
         state,
-        &mut live[..live_end],
-        &mut store[..store_end],
+        &mut live[..l],
+        &mut store[..s],
         kind,
         word,
         v,
@@ -120,7 +97,7 @@ fn answer_entered(
     )
 }
 
-// An answer: one that is done charges 4, and says whether the run may go on (104) or is out of fuel (101).
+// An answer: one that is done charges 4, and says whether the run may go on or is out of fuel.
 pub fn answer(
     image: &[u8],
     state: &mut [u8],
@@ -136,8 +113,8 @@ pub fn answer(
     ensures { AnswerCalled image.now kind word v args.now handlers.now result state.old live.old store.old fuel.old state.new live.new store.new fuel.new }
 {
     match fuel::read(fuel) {
-        Loan::Refused(n) => n,
-        Loan::Held(f) => {
+        Err(refusal) => refusal.number(),
+        Ok(f) => {
             let mut rows = [0u32; 2560];
             let mut constants = [0u32; 10923];
             let mut inner = [0u32; 256];
@@ -150,21 +127,20 @@ pub fn answer(
                 &mut constants,
                 &mut inner,
             ) {
-                Read::Refused(n) => n,
-                Read::Accepted(codes, used, kept) => {
-                    let refusal = answer_entered(
-                        image, &rows, &constants, &inner, codes, used, kept, state, live, store,
-                        kind, word, v, args, handlers,
-                    );
-                    if refusal != 0 {
-                        return refusal;
+                Err(refusal) => refusal.number(),
+                Ok(sizes) => {
+                    let program = form::filled(image, &rows, &constants, &inner, sizes);
+                    if let Err(refusal) = answer_entered(
+                        &program, state, live, store, kind, word, v, args, handlers,
+                    ) {
+                        return refusal.number();
                     }
                     let left = fuel::charged(f, 4);
                     fuel::write(fuel, left);
                     if left.should_continue() {
-                        return 104;
+                        return GO_ON;
                     }
-                    101
+                    OUT_OF_FUEL
                 }
             }
         }

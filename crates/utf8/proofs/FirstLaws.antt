@@ -1,5 +1,5 @@
 -- The first octet decides the row: `char` is `followed` after `lead_of`, for every octet and every text after it.
-use Rattle.std.specs.Prelude.{◌≡◌, refl, List, [], ◌∷◌, Bool, true, false, cond, ℕ, ◌+◌, ◌<◌, ◌≤◌, length, leb}
+use Rattle.std.specs.Prelude.{◌≡◌, refl, Some, List, [], ◌∷◌, Bool, true, false, cond, ℕ, ◌+◌, ◌<◌, ◌≤◌, length, leb}
 use Rattle.std.proofs.Common.{sym, ap, ◌∙◌, arith}
 use borrow.Author.Tests.{le-leb, lt-leb, leb-true}
 use Rattle.utf8.specs.Utf8.{Range, both, within, tail, Row, rows, starts, char}
@@ -41,8 +41,9 @@ module _ (x : ℕ) where
 record Fine (b : ℕ) (r : Row) : Type 0 where
   low : b ≤ r.first.from
   high : r.first.from ≤ r.first.to
+  some : 0 < (lead_to r.rest).width
   few : (lead_to r.rest).width ≤ 4
-  same : (s : List ℕ) → followed (lead_to r.rest) s ≡ cond (starts r.rest s) (1 + length r.rest) 0
+  same : (s : List ℕ) → followed (Some (lead_to r.rest)) s ≡ cond (starts r.rest s) (1 + length r.rest) 0
 
 -- such rows, in the order of their first octets
 unfoldable Good : ℕ → List Row → Type 0
@@ -52,23 +53,23 @@ Good b (r ∷ rs) = Fine b r × Good (r.first.to + 1) rs
 good : Good 0 rows
 unfolding Good tails follow starts
 good = (
-  record { low = omega arith; high = omega arith; few = omega arith; same = λ s. refl },
+  record { low = omega arith; high = omega arith; some = omega arith; few = omega arith; same = λ s. refl },
   (
-    record { low = omega arith; high = omega arith; few = omega arith; same = λ s. refl },
+    record { low = omega arith; high = omega arith; some = omega arith; few = omega arith; same = λ s. refl },
     (
-      record { low = omega arith; high = omega arith; few = omega arith; same = λ s. refl },
+      record { low = omega arith; high = omega arith; some = omega arith; few = omega arith; same = λ s. refl },
       (
-        record { low = omega arith; high = omega arith; few = omega arith; same = λ s. refl },
+        record { low = omega arith; high = omega arith; some = omega arith; few = omega arith; same = λ s. refl },
         (
-          record { low = omega arith; high = omega arith; few = omega arith; same = λ s. refl },
+          record { low = omega arith; high = omega arith; some = omega arith; few = omega arith; same = λ s. refl },
           (
-            record { low = omega arith; high = omega arith; few = omega arith; same = λ s. refl },
+            record { low = omega arith; high = omega arith; some = omega arith; few = omega arith; same = λ s. refl },
             (
-              record { low = omega arith; high = omega arith; few = omega arith; same = λ s. refl },
+              record { low = omega arith; high = omega arith; some = omega arith; few = omega arith; same = λ s. refl },
               (
-                record { low = omega arith; high = omega arith; few = omega arith; same = λ s. refl },
+                record { low = omega arith; high = omega arith; some = omega arith; few = omega arith; same = λ s. refl },
                 (
-                  record { low = omega arith; high = omega arith; few = omega arith; same = λ s. refl },
+                  record { low = omega arith; high = omega arith; some = omega arith; few = omega arith; same = λ s. refl },
                   tt,
                 ),
               ),
@@ -98,82 +99,34 @@ unfolding char lead_in follow Good
 char_in b [] g x s = refl
 char_in b (r ∷ rs) g x s = by (char_in (r.first.to + 1) rs g.1 x s) (within r.first x) refl
   where
-    by : char rs x s ≡ followed (lead_in rs x) s → (p : Bool) → within r.first x ≡ p → either r (char rs x s) s (within r.first x) ≡ followed (cond (within r.first x) (lead_to r.rest) (lead_in rs x)) s
+    by : char rs x s ≡ followed (lead_in rs x) s → (p : Bool) → within r.first x ≡ p → either r (char rs x s) s (within r.first x) ≡ followed (cond (within r.first x) (Some (lead_to r.rest)) (lead_in rs x)) s
     by e true w =
         ap (either r (char rs x s) s) w
         ∙ ap (λ (n : ℕ). cond (starts r.rest s) (1 + length r.rest) n) (char_low (r.first.to + 1) rs g.1 x s (omega (arith, leb-true x r.first.to (both_left (leb x r.first.to) (leb r.first.from x) w))))
         ∙ sym (g.0.same s)
-        ∙ ap (λ (q : Bool). followed (cond q (lead_to r.rest) (lead_in rs x)) s) (sym w)
-    by e false w = ap (either r (char rs x s) s) w ∙ e ∙ ap (λ (q : Bool). followed (cond q (lead_to r.rest) (lead_in rs x)) s) (sym w)
+        ∙ ap (λ (q : Bool). followed (cond q (Some (lead_to r.rest)) (lead_in rs x)) s) (sym w)
+    by e false w = ap (either r (char rs x s) s) w ∙ e ∙ ap (λ (q : Bool). followed (cond q (Some (lead_to r.rest)) (lead_in rs x)) s) (sym w)
 
 -- the first octet decides
 pub char_lead : (x : ℕ) (s : List ℕ) → char rows x s ≡ followed (lead_of x) s
 char_lead = char_in 0 rows good
 
-width_in : (b : ℕ) (rs : List Row) → Good b rs → (x : ℕ) → (lead_in rs x).width ≤ 4
+width_in : (b : ℕ) (rs : List Row) → Good b rs → (x : ℕ) {d : Lead} → Some d ≡ lead_in rs x → (0 < d.width) × (d.width ≤ 4)
 unfolding lead_in Good
-width_in b [] g x = omega arith
-width_in b (r ∷ rs) g x = by (width_in (r.first.to + 1) rs g.1 x) (within r.first x)
+width_in b [] g x e = absurd (let z : ◌≡◌ {A = ℕ} 0 1 = cc in omega arith)
+width_in b (r ∷ rs) g x {d} e = by (width_in (r.first.to + 1) rs g.1 x) (within r.first x) e
   where
-    by : (lead_in rs x).width ≤ 4 → (p : Bool) → (cond p (lead_to r.rest) (lead_in rs x)).width ≤ 4
-    by h true = g.0.few
-    by h false = h
+    by : (Some d ≡ lead_in rs x → (0 < d.width) × (d.width ≤ 4)) → (p : Bool) → Some d ≡ cond p (Some (lead_to r.rest)) (lead_in rs x) → (0 < d.width) × (d.width ≤ 4)
+    by h true e =
+        let z : d ≡ lead_to r.rest = cc in
+        let w : d.width ≡ (lead_to r.rest).width = ap (λ (l : Lead). l.width) z in
+        (omega (arith, g.0.some), omega (arith, g.0.few))
+    by h false e = h e
 
-pub width_most : (x : ℕ) → (lead_of x).width ≤ 4
+pub width_most : (x : ℕ) {d : Lead} → Some d ≡ lead_of x → (0 < d.width) × (d.width ≤ 4)
 width_most = width_in 0 rows good
 
--- one law for each return of `lead_of`
-module _ (x : ℕ) where
-  pub lead_127 : {r : Lead} → x ≤ 127 → r ≡ lead 1 0 0 → r ≡ lead_of x
-  unfolding lead_in
-  lead_127 h e = e ∙ simp (le-leb x 127 h, le-leb 0 x (omega arith))
-
-  module _ (a127 : 127 < x) where
-    pub lead_193 : {r : Lead} → x ≤ 193 → r ≡ lead 0 0 0 → r ≡ lead_of x
-    unfolding lead_in
-    lead_193 h e = e ∙ simp (lt-leb x 127 a127, le-leb x 223 (omega arith), lt-leb 194 x (omega arith), le-leb x 224 (omega arith), lt-leb 224 x (omega arith), le-leb x 236 (omega arith), lt-leb 225 x (omega arith), le-leb x 237 (omega arith), lt-leb 237 x (omega arith), le-leb x 239 (omega arith), lt-leb 238 x (omega arith), le-leb x 240 (omega arith), lt-leb 240 x (omega arith), le-leb x 243 (omega arith), lt-leb 241 x (omega arith), le-leb x 244 (omega arith), lt-leb 244 x (omega arith))
-
-    module _ (a193 : 193 < x) where
-      pub lead_223 : {r : Lead} → x ≤ 223 → r ≡ lead 2 128 191 → r ≡ lead_of x
-      unfolding lead_in
-      lead_223 h e = e ∙ simp (lt-leb x 127 a127, le-leb x 223 h, le-leb 194 x (omega arith))
-
-      module _ (a223 : 223 < x) where
-        pub lead_224 : {r : Lead} → x ≤ 224 → r ≡ lead 3 160 191 → r ≡ lead_of x
-        unfolding lead_in
-        lead_224 h e = e ∙ simp (lt-leb x 127 a127, lt-leb x 223 a223, le-leb x 224 h, le-leb 224 x (omega arith))
-
-        module _ (a224 : 224 < x) where
-          pub lead_236 : {r : Lead} → x ≤ 236 → r ≡ lead 3 128 191 → r ≡ lead_of x
-          unfolding lead_in
-          lead_236 h e = e ∙ simp (lt-leb x 127 a127, lt-leb x 223 a223, lt-leb x 224 a224, le-leb x 236 h, le-leb 225 x (omega arith))
-
-          module _ (a236 : 236 < x) where
-            pub lead_237 : {r : Lead} → x ≤ 237 → r ≡ lead 3 128 159 → r ≡ lead_of x
-            unfolding lead_in
-            lead_237 h e = e ∙ simp (lt-leb x 127 a127, lt-leb x 223 a223, lt-leb x 224 a224, lt-leb x 236 a236, le-leb x 237 h, le-leb 237 x (omega arith))
-
-            module _ (a237 : 237 < x) where
-              pub lead_239 : {r : Lead} → x ≤ 239 → r ≡ lead 3 128 191 → r ≡ lead_of x
-              unfolding lead_in
-              lead_239 h e = e ∙ simp (lt-leb x 127 a127, lt-leb x 223 a223, lt-leb x 224 a224, lt-leb x 236 a236, lt-leb x 237 a237, le-leb x 239 h, le-leb 238 x (omega arith))
-
-              module _ (a239 : 239 < x) where
-                pub lead_240 : {r : Lead} → x ≤ 240 → r ≡ lead 4 144 191 → r ≡ lead_of x
-                unfolding lead_in
-                lead_240 h e = e ∙ simp (lt-leb x 127 a127, lt-leb x 223 a223, lt-leb x 224 a224, lt-leb x 236 a236, lt-leb x 237 a237, lt-leb x 239 a239, le-leb x 240 h, le-leb 240 x (omega arith))
-
-                module _ (a240 : 240 < x) where
-                  pub lead_243 : {r : Lead} → x ≤ 243 → r ≡ lead 4 128 191 → r ≡ lead_of x
-                  unfolding lead_in
-                  lead_243 h e = e ∙ simp (lt-leb x 127 a127, lt-leb x 223 a223, lt-leb x 224 a224, lt-leb x 236 a236, lt-leb x 237 a237, lt-leb x 239 a239, lt-leb x 240 a240, le-leb x 243 h, le-leb 241 x (omega arith))
-
-                  module _ (a243 : 243 < x) where
-                    pub lead_244 : {r : Lead} → x ≤ 244 → r ≡ lead 4 128 143 → r ≡ lead_of x
-                    unfolding lead_in
-                    lead_244 h e = e ∙ simp (lt-leb x 127 a127, lt-leb x 223 a223, lt-leb x 224 a224, lt-leb x 236 a236, lt-leb x 237 a237, lt-leb x 239 a239, lt-leb x 240 a240, lt-leb x 243 a243, le-leb x 244 h, le-leb 244 x (omega arith))
-
-                    module _ (a244 : 244 < x) where
-                      pub lead_none : {r : Lead} → r ≡ lead 0 0 0 → r ≡ lead_of x
-                      unfolding lead_in
-                      lead_none e = e ∙ simp (lt-leb x 127 a127, lt-leb x 223 a223, lt-leb x 224 a224, lt-leb x 236 a236, lt-leb x 237 a237, lt-leb x 239 a239, lt-leb x 240 a240, lt-leb x 243 a243, lt-leb x 244 a244)
+-- after 224 the second octet starts at 160: below it the form would be overlong
+pub lead_224 : (x : ℕ) → x ≡ 224 → Some (lead 3 160 191) ≡ lead_of x
+unfolding lead_in
+lead_224 x e = rw e refl

@@ -1,5 +1,5 @@
 -- The laws of the functions' returns: a text from an index on, octet by octet.
-use Rattle.std.specs.Prelude.{◌≡◌, refl, Bool, true, false, ℕ, zero, suc, ◌+◌, ◌-◌, ◌<◌, ◌≤◌, length, get_or, drop, leb}
+use Rattle.std.specs.Prelude.{◌≡◌, refl, Option, Some, None, Bool, true, false, ℕ, zero, suc, ◌+◌, ◌-◌, ◌<◌, ◌≤◌, length, get_or, drop, leb}
 use Rattle.std.proofs.Common.{sym, ap, ◌∙◌, add-zero, length-drop, drop-cons, drop-drop, le-leb, leb-true, leb-false}
 use mathlib.Core.List.{List, [], ◌∷◌}
 use Rattle.std.proofs.Math.Bool.{cond}
@@ -43,12 +43,12 @@ alone true = refl
 alone false = refl
 
 -- the character at i, whose first octet says d
-module _ (s : List ℕ) (i : ℕ) {d : Lead} (e : d ≡ lead_of (get_or s i 0)) where
+module _ (s : List ℕ) (i : ℕ) {d : Lead} (e : Some d ≡ lead_of (get_or s i 0)) where
   abbrev char_is : ℕ → Type 0
   char_is n = n ≡ char rows (get_or s i 0) (drop (i + 1) s)
 
-  is : (n : ℕ) → followed d (drop (i + 1) s) ≡ n → char_is n
-  is n h = sym (char_lead (get_or s i 0) (drop (i + 1) s) ∙ ap (λ (z : Lead). followed z (drop (i + 1) s)) (sym e) ∙ h)
+  is : (n : ℕ) → followed (Some d) (drop (i + 1) s) ≡ n → char_is n
+  is n h = sym (char_lead (get_or s i 0) (drop (i + 1) s) ∙ ap (λ (z : Option Lead). followed z (drop (i + 1) s)) (sym e) ∙ h)
 
   pub char_alone : d.width ≤ 1 → char_is d.width
   unfolding follow
@@ -103,7 +103,7 @@ module _ (s : List ℕ) (i : ℕ) {d : Lead} (e : d ≡ lead_of (get_or s i 0)) 
               pub char_four : char_is (cond q d.width 0)
               unfolding tails starts
               char_four =
-                  let fits : d.width ≤ 4 = rw e (width_most (get_or s i 0)) in
+                  let fits : d.width ≤ 4 = (width_most (get_or s i 0) e).1 in
                   let z : d.width - 2 - 1 ≡ 1 = omega arith in
                   ending (ap (λ (n : ℕ). starts (tails n) (drop (i + 3) s)) z ∙ starts_at tail [] s (i + 3) (i + 4) (omega arith) (omega arith) (sym w') ∙ alone q)
 
@@ -212,16 +212,18 @@ char_long (r ∷ rs) x s = by (char_long rs x s) (both (within r.first x) (start
 inside_at_lem : (s : List ℕ) (i : ℕ) {n : ℕ} → i < length s → n ≡ char rows (get_or s i 0) (drop (i + 1) s) → i + n ≤ length s
 inside_at_lem s i h e = omega (arith, char_long rows (get_or s i 0) (drop (i + 1) s), length-drop (i + 1) s)
 
-module _ {s : List ℕ} {i : ℕ} (w : Passed s 0 i) (h : i < length s) {d : Lead} (e : d ≡ lead_of (get_or s i 0)) where
-  pub pass_none_starts : d.width ≡ 0 → false ≡ utf8 s
-  pass_none_starts z = utf8_ends s i h (char_alone s i e (omega arith)) z ∙ w.same
+pub pass_none_starts : {s : List ℕ} {i : ℕ} → Passed s 0 i → i < length s → None ≡ lead_of (get_or s i 0) → false ≡ utf8 s
+pass_none_starts {s} {i} w h e =
+    let none : 0 ≡ char rows (get_or s i 0) (drop (i + 1) s) = ap (λ (z : Option Lead). followed z (drop (i + 1) s)) e ∙ sym (char_lead (get_or s i 0) (drop (i + 1) s)) in
+    utf8_ends s i h none refl ∙ w.same
 
+module _ {s : List ℕ} {i : ℕ} (w : Passed s 0 i) (h : i < length s) {d : Lead} (e : Some d ≡ lead_of (get_or s i 0)) where
   module _ {r : Bool} (f : cond r d.width 0 ≡ char rows (get_or s i 0) (drop (i + 1) s)) where
     pub char_inside : r ≡ true → i + d.width ≤ length s
     char_inside t = inside_at_lem s i h (ap (λ (q : Bool). cond q d.width 0) (sym t) ∙ f)
 
-    pub pass_char : r ≡ true → (d.width ≡ 0 → ⊥) → Passed s 0 (i + d.width)
-    pass_char t z = record { after = omega (arith, w.after); inside = char_inside t; same = utf8_next s i h (ap (λ (q : Bool). cond q d.width 0) (sym t) ∙ f) (omega (arith, z)) ∙ w.same }
+    pub pass_char : r ≡ true → Passed s 0 (i + d.width)
+    pass_char t = record { after = omega (arith, w.after); inside = char_inside t; same = utf8_next s i h (ap (λ (q : Bool). cond q d.width 0) (sym t) ∙ f) (width_most (get_or s i 0) e).0 ∙ w.same }
 
     pub pass_not_followed : r ≡ false → false ≡ utf8 s
     pass_not_followed t = utf8_ends s i h (ap (λ (q : Bool). cond q d.width 0) (sym t) ∙ f) refl ∙ w.same

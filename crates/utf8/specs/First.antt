@@ -1,5 +1,5 @@
 -- What the first octet of a UTF8-char decides: the row, and so how many octets there are and the bounds of the second.
-use Rattle.std.specs.Prelude.{List, [], ◌∷◌, cond, ℕ, zero, suc, ◌+◌, ◌-◌, length, leb}
+use Rattle.std.specs.Prelude.{Option, Some, None, List, [], ◌∷◌, cond, ℕ, zero, suc, ◌+◌, ◌-◌, length, leb}
 use Rattle.utf8.specs.Utf8.{Range, ◌to◌, within, tail, Row, rows, starts}
 use Rattle.utf8.specs.declared.Lead.{Lead}
 
@@ -11,12 +11,12 @@ abbrev pub lead_to : List Range → Lead
 lead_to [] = lead 1 0 0
 lead_to (r ∷ rs) = lead (2 + length rs) r.from r.to
 
--- of the row that x starts; width 0 where x starts none
-unfoldable pub lead_in : List Row → ℕ → Lead
-lead_in [] x = lead 0 0 0
-lead_in (r ∷ rs) x = cond (within r.first x) (lead_to r.rest) (lead_in rs x)
+-- of the row that x starts; None where x starts none
+unfoldable pub lead_in : List Row → ℕ → Option Lead
+lead_in [] x = None
+lead_in (r ∷ rs) x = cond (within r.first x) (Some (lead_to r.rest)) (lead_in rs x)
 
-abbrev pub lead_of : ℕ → Lead
+abbrev pub lead_of : ℕ → Option Lead
 lead_of = lead_in rows
 
 -- k times UTF8-tail
@@ -28,5 +28,6 @@ tails (suc k) = tail ∷ tails k
 unfoldable pub follow : ℕ → ℕ → ℕ → List ℕ → ℕ
 follow w a b s = cond (leb w 1) w (cond (starts ((a to b) ∷ tails (w - 2)) s) w 0)
 
-abbrev pub followed : Lead → List ℕ → ℕ
-followed d = follow d.width d.low d.high
+abbrev pub followed : Option Lead → List ℕ → ℕ
+followed None s = 0
+followed (Some d) s = follow d.width d.low d.high s

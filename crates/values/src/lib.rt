@@ -11,7 +11,7 @@ ghost use Rattle.plan.specs.Plans.{error_of, Throws, Shows};
 
 use cells::Cell;
 use image::Constant;
-use plan::Error;
+use plan::{Error, ErrorKind};
 
 // The type of a value, 0 to 9.
 pub fn type_of(v: Cell) -> u32
@@ -52,7 +52,7 @@ pub fn un_operator(op: u16, x: u32, of: u32) -> Error
     ensures { result ≡ error_of (un_operator op x of) }
 {
     Error {
-        kind: 4,
+        kind: ErrorKind::UnOperator,
         value: Cell {
             tag: op as u32,
             number: x,
@@ -67,7 +67,7 @@ pub fn bin_operator(op: u16, x: u32, first: u32, second: u32) -> Error
     ensures { result ≡ error_of (bin_operator op x first second) }
 {
     Error {
-        kind: 5,
+        kind: ErrorKind::BinOperator,
         value: Cell {
             tag: op as u32,
             number: x,
@@ -82,7 +82,7 @@ pub fn meta_un_operator(name: u32, of: u32) -> Error
     ensures { result ≡ error_of (meta_un_operator name of) }
 {
     Error {
-        kind: 6,
+        kind: ErrorKind::MetaUnOperator,
         value: Cell {
             tag: name,
             number: 0,
@@ -96,17 +96,17 @@ pub fn meta_un_operator(name: u32, of: u32) -> Error
 pub fn thrown(x: Error) -> Cell
     ensures { Throws x result }
 {
-    if x.kind == 10 {
-        return Cell {
+    match x.kind {
+        ErrorKind::Panic => Cell {
             tag: 8,
             number: 2,
             payload: 0,
-        };
-    }
-    Cell {
-        tag: 8,
-        number: 1,
-        payload: 0,
+        },
+        _ => Cell {
+            tag: 8,
+            number: 1,
+            payload: 0,
+        },
     }
 }
 
@@ -114,16 +114,13 @@ pub fn thrown(x: Error) -> Cell
 pub fn shown(x: Error) -> Cell
     ensures { Shows x result }
 {
-    if x.kind > 8 {
-        return x.value;
-    }
-    if x.kind < 3 {
-        return x.value;
-    }
-    Cell {
-        tag: 20,
-        number: x.kind - 2,
-        payload: 0,
+    match x.kind {
+        ErrorKind::Error | ErrorKind::Panic => x.value,
+        kind => Cell {
+            tag: 20,
+            number: kind.number() - 2,
+            payload: 0,
+        },
     }
 }
 

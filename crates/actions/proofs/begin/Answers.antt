@@ -1,7 +1,6 @@
 -- `actions::begin` meets its contract: the loop keeps `Passed` for the frames that it has passed. Assumes nothing.
 use mathlib.Core.Path.{refl}
 use native.Mathlib.Omega.{arith}
-use Rattle.cells.specs.Cells.{cells}
 use Rattle.cells.specs.CellsLaws.{length_cells}
 use Rattle.actions.specs.Tables.{passed_none, passed_fits, passed_next, passed_all}
 use borrow.Author.Rules.{rules}
@@ -36,12 +35,6 @@ offset_bounds-starts-first c = omega arith
 
 pub bounds-starts-first : goal.bounds-starts-first
 bounds-starts-first c = omega (arith, c.loop-i.invariant.0.begun.len, c.loop-i-test.true, c.requires.table)
-
-pub overflow_add-i : goal.overflow_add-i
-overflow_add-i c = omega arith
-
-pub loop-i-smaller : goal.loop-i-smaller
-loop-i-smaller c = omega arith
 
 pub loop-i-preserved : goal.loop-i-preserved
 loop-i-preserved c = (

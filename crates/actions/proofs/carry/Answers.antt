@@ -20,8 +20,8 @@ catch-requires c = catches_needs c.requires c.in-Catches.is
 pub copy-requires : goal.copy-requires
 copy-requires c = (unhandled_needs c.requires c.in-Unhandled.is (c.room-n.ensures ∙ sym (length_cells _)), omega (arith, c.room-n.ensures))
 
-pub overflow_cast-x : goal.overflow_cast-x
-overflow_cast-x c = omega arith
+pub overflow_cast-number : goal.overflow_cast-number
+overflow_cast-number c = omega arith
 
 pub overflow_sub-top : goal.overflow_sub-top
 overflow_sub-top c = (receives_numbers c.requires c.in-Receives.is).0
@@ -54,7 +54,7 @@ pub returns-in-Unhandled : goal.returns-in-Unhandled
 returns-in-Unhandled c = unhandled_leaves _ _ _ c.in-Unhandled.is c.room-n.ensures c.copy.ensures c.set_result.ensures
 
 pub returns-in-Fails : goal.returns-in-Fails
-returns-in-Fails c = fails_leaves _ _ _ _ _ c.in-Fails.is c.set_result-in-Fails.ensures
+returns-in-Fails c = fails_leaves _ _ _ _ _ c.in-Fails.is (rw c.number.ensures at c.set_result-in-Fails.ensures)
 
 pub returns-in-Receives : goal.returns-in-Receives
 returns-in-Receives c = receives_leaves _ _ c.in-Receives.is refl c.receive.ensures

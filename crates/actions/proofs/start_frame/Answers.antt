@@ -33,4 +33,4 @@ pub shape_of-live : goal.shape_of-live
 shape_of-live c = omega arith
 
 pub returns : goal.returns
-returns c = starts_frame _ (start_fits c.requires).table c.list_rest.ensures c.new_frame.ensures c.push_args-h.ensures c.settle.ensures
+returns c = starts_frame _ (start_fits c.requires).table c.list_rest.ensures (rw c.number.ensures at c.new_frame.ensures) c.push_args-h.ensures c.settle.ensures

@@ -9,15 +9,6 @@ starts-end-requires c = search lay_starts
 pub copy-requires : goal.copy-requires
 copy-requires c = lay_copies c.requires c.starts-end.ensures
 
-pub overflow_sub-top : goal.overflow_sub-top
-overflow_sub-top c = omega arith
-
-pub offset_bounds-starts-top : goal.offset_bounds-starts-top
-offset_bounds-starts-top c = omega arith
-
-pub bounds-starts-top : goal.bounds-starts-top
-bounds-starts-top c = omega arith
-
 pub overflow_cast-starts : goal.overflow_cast-starts
 overflow_cast-starts c = omega (arith, lay_head c.requires c.starts-end.ensures)
 

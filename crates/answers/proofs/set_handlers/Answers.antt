@@ -1,5 +1,4 @@
 -- `answers::set_handlers` meets its contract: the first j of the kept effects are its handlers. Assumes nothing.
-use native.Mathlib.Omega.{arith}
 use Rattle.answers.specs.Frames.{host_fits, open_fits, adding_none, adding_there, adding_fits, adding_more, adding_settles, rehandles}
 use Rattle.answers.proofs.set_handlers.Goals as goal
 
@@ -17,12 +16,6 @@ get-requires c = search adding_there
 
 pub add_handler-g-requires : goal.add_handler-g-requires
 add_handler-g-requires c = search adding_fits
-
-pub overflow_add-j : goal.overflow_add-j
-overflow_add-j c = record { fits = omega (arith, c.loop-j-test.true, c.ranges.n) }
-
-pub loop-j-smaller : goal.loop-j-smaller
-loop-j-smaller c = omega arith
 
 pub loop-j-preserved : goal.loop-j-preserved
 loop-j-preserved c = adding_more c.loop-j.invariant c.loop-j-test.true c.get.ensures c.add_handler-g.ensures

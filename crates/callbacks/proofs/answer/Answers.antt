@@ -1,4 +1,5 @@
 -- `callbacks::answer` meets its contract. Assumes nothing.
+use Rattle.std.proofs.lemmas.Result.{err_from_is_err_and}
 use Rattle.callbacks.specs.AnswerLaws.{used_fits, answer_early, answer_malformed, answer_unfit, answer_replyable, answer_replied}
 use Rattle.std.proofs.Common.{ap, not}
 use Rattle.callbacks.proofs.answer.Goals as goal
@@ -10,13 +11,15 @@ pub fits-requires : goal.fits-requires
 fits-requires c = used_fits c.requires c.used-used.ensures
 
 pub returns-then-not-fits : goal.returns-then-not-fits
-returns-then-not-fits c = answer_unfit _ _ _ _ _ c.waits.ensures c.if-waits-eq0.false c.return_of.ensures c.in-Returns.is c.used-used.ensures c.fits.ensures (ap not c.if-not-fits.true)
+returns-then-not-fits c = answer_unfit _ _ _ _ _ c.waits.ensures c.if-waits-eq0.false c.return_of.ensures c.in_ok-r.was c.used-used.ensures c.fits.ensures (ap not c.if-not-fits.true)
 
 pub reply-requires : goal.reply-requires
-reply-requires c = answer_replyable _ 0 _ _ _ c.waits.ensures c.if-waits-eq0.false c.return_of.ensures c.in-Returns.is c.used-used.ensures c.fits.ensures c.requires (ap not c.if-not-fits.false)
+reply-requires c = answer_replyable _ 0 _ _ _ c.waits.ensures c.if-waits-eq0.false c.return_of.ensures c.in_ok-r.was c.used-used.ensures c.fits.ensures c.requires (ap not c.if-not-fits.false)
 
-pub returns-in-Malformed : goal.returns-in-Malformed
-returns-in-Malformed c = answer_malformed _ _ _ _ _ c.waits.ensures c.if-waits-eq0.false c.return_of.ensures c.in-Malformed.is
+pub returns-in_err-r : goal.returns-in_err-r
+returns-in_err-r c =
+    let p = err_from_is_err_and c.from_residual.result c.from_residual.ensures.1 in
+    rw (p.1, p.2) (answer_malformed _ _ _ _ _ c.waits.ensures c.if-waits-eq0.false c.return_of.ensures c.in_err-r.was)
 
-pub returns-else-not-fits : goal.returns-else-not-fits
-returns-else-not-fits c = answer_replied _ _ _ _ _ c.waits.ensures c.if-waits-eq0.false c.return_of.ensures c.in-Returns.is c.reply.ensures
+pub returns : goal.returns
+returns c = answer_replied _ _ _ _ _ c.waits.ensures c.if-waits-eq0.false c.return_of.ensures c.in_ok-r.was c.reply.ensures

@@ -5,11 +5,11 @@ use Rattle.calls.proofs.+perform_effect_with_throw_error.Goals as goal
 pub perform_effect_with-returns-then-not-check_args : goal.perform_effect_with-returns-then-not-check_args
 perform_effect_with-returns-then-not-check_args t c = search performs_wrong
 
-pub perform_effect_with-returns-in-In : goal.perform_effect_with-returns-in-In
-perform_effect_with-returns-in-In t c = search performs_handled
+pub perform_effect_with-returns-in-Some : goal.perform_effect_with-returns-in-Some
+perform_effect_with-returns-in-Some t c = search performs_handled
 
-pub perform_effect_with-returns-in-Nowhere : goal.perform_effect_with-returns-in-Nowhere
-perform_effect_with-returns-in-Nowhere t c = search performs_unhandled
+pub perform_effect_with-returns-in-None : goal.perform_effect_with-returns-in-None
+perform_effect_with-returns-in-None t c = search performs_unhandled
 
 pub throw_error-returns-then-throws-eq0 : goal.throw_error-returns-then-throws-eq0
 throw_error-returns-then-throws-eq0 t c = search throw_none

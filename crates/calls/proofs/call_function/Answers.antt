@@ -6,5 +6,5 @@ use Rattle.calls.proofs.call_function.Goals as goal
 pub no_frame-requires : goal.no_frame-requires
 no_frame-requires c = (search call_other, search rules)
 
-pub returns-in-Frame : goal.returns-in-Frame
-returns-in-Frame c = search call_begins
+pub returns-in-Some : goal.returns-in-Some
+returns-in-Some c = search call_begins

@@ -2,8 +2,8 @@
 use Rattle.calls.specs.Performing.{lacking_performed, lacking_thrown}
 use Rattle.calls.proofs.unhandled.Goals as goal
 
-pub returns-in-Performed : goal.returns-in-Performed
-returns-in-Performed c = search lacking_performed
+pub returns-in-None : goal.returns-in-None
+returns-in-None c = search lacking_performed
 
-pub returns-in-Thrown : goal.returns-in-Thrown
-returns-in-Thrown c = search lacking_thrown
+pub returns-in-Some : goal.returns-in-Some
+returns-in-Some c = search lacking_thrown

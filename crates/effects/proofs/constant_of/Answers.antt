@@ -2,11 +2,11 @@
 use Rattle.effects.specs.Effects.{constant_of_past, constant_of_over, constant_of_here}
 use Rattle.effects.proofs.constant_of.Goals as goal
 
-pub returns-then-code-codes : goal.returns-then-code-codes
-returns-then-code-codes c = search constant_of_past
+pub returns-then-code-program : goal.returns-then-code-program
+returns-then-code-program c = search constant_of_past
 
-pub returns-then-v-field : goal.returns-then-v-field
-returns-then-v-field c = search constant_of_over
+pub returns-then-v-constant_count : goal.returns-then-v-constant_count
+returns-then-v-constant_count c = search constant_of_over
 
 pub returns : goal.returns
 returns c = search constant_of_here

@@ -1,39 +1,36 @@
 -- `form::enter` meets its contract. Assumes nothing.
 use native.Mathlib.Omega.{arith}
-use mathlib.Core.Path.{sym}
-use lib.Seq.{length-take-le}
+use mathlib.Core.Path.{◌∙◌, ap}
+use Rattle.std.proofs.lemmas.Result.{err_from_is_err_and}
+use Rattle.form.specs.Entry.{held_answer}
 use Rattle.form.specs.EntryLaws.{reads_low, enters_block, enters_refused, enters_not, enters_accepted}
 use Rattle.form.proofs.enter.Goals as goal
 
 pub returns-then-state-ne8256 : goal.returns-then-state-ne8256
 returns-then-state-ne8256 c = enters_block _ _ _ _ _ _ _ c.if-state-ne8256.true
 
-pub overflow_mul-end : goal.overflow_mul-end
-overflow_mul-end c = omega (arith, (reads_low c.read_image.ensures c.in-Accepted.is).codes)
+pub filled-program-requires : goal.filled-program-requires
+filled-program-requires c =
+    let l = reads_low c.read_image.ensures c.in_ok-sizes.was in
+    record {
+      codes = l.codes;
+      rows = omega (arith, c.requires);
+      constants = omega (arith, c.requires, l.used);
+      inner = omega (arith, c.requires, l.codes, l.kept);
+    }
 
-pub slice_bounds-held-end : goal.slice_bounds-held-end
-slice_bounds-held-end c = omega (arith, c.requires, (reads_low c.read_image.ensures c.in-Accepted.is).codes)
+pub returns-in_err-sizes : goal.returns-in_err-sizes
+returns-in_err-sizes c =
+    let p = err_from_is_err_and c.from_residual.result c.from_residual.ensures.1 in
+    rw (p.1, p.2) (enters_refused _ _ _ c.read_image.ensures c.if-state-ne8256.false c.in_err-sizes.was)
 
-pub slice_bounds-held-end-in-Accepted : goal.slice_bounds-held-end-in-Accepted
-slice_bounds-held-end-in-Accepted c = sym (length-take-le _ _ (omega (arith, c.requires, (reads_low c.read_image.ensures c.in-Accepted.is).codes)))
+pub returns-in_err-held : goal.returns-in_err-held
+returns-in_err-held c =
+    let h = c.held.ensures ∙ ap (λ P. held_answer P c.args.state.now c.args.live.now c.args.store.now) c.filled-program.ensures in
+    let p = err_from_is_err_and c.from_residual-in_err-held.result c.from_residual-in_err-held.ensures.1 in
+    rw (p.1, p.2) (enters_not _ _ _ c.read_image.ensures c.if-state-ne8256.false c.in_ok-sizes.was (rw c.in_err-held.was at h))
 
-pub slice_bounds-held-end-in-Accepted-2 : goal.slice_bounds-held-end-in-Accepted-2
-slice_bounds-held-end-in-Accepted-2 c = omega (arith, c.requires, (reads_low c.read_image.ensures c.in-Accepted.is).used)
-
-pub slice_bounds-held-end-in-Accepted-3 : goal.slice_bounds-held-end-in-Accepted-3
-slice_bounds-held-end-in-Accepted-3 c = sym (length-take-le _ _ (omega (arith, c.requires, (reads_low c.read_image.ensures c.in-Accepted.is).used)))
-
-pub slice_bounds-held-end-in-Accepted-4 : goal.slice_bounds-held-end-in-Accepted-4
-slice_bounds-held-end-in-Accepted-4 c = omega (arith, c.requires, (reads_low c.read_image.ensures c.in-Accepted.is).codes, (reads_low c.read_image.ensures c.in-Accepted.is).kept)
-
-pub slice_bounds-held-end-in-Accepted-5 : goal.slice_bounds-held-end-in-Accepted-5
-slice_bounds-held-end-in-Accepted-5 c = sym (length-take-le _ _ (omega (arith, c.requires, (reads_low c.read_image.ensures c.in-Accepted.is).codes, (reads_low c.read_image.ensures c.in-Accepted.is).kept)))
-
-pub returns-then-refusal-ne0 : goal.returns-then-refusal-ne0
-returns-then-refusal-ne0 c = enters_not _ _ _ c.read_image.ensures c.if-state-ne8256.false c.in-Accepted.is c.held-refusal.ensures c.if-refusal-ne0.true
-
-pub returns-in-Refused : goal.returns-in-Refused
-returns-in-Refused c = enters_refused _ _ _ c.read_image.ensures c.if-state-ne8256.false c.in-Refused.is
-
-pub returns-else-refusal-ne0 : goal.returns-else-refusal-ne0
-returns-else-refusal-ne0 c = enters_accepted _ _ _ c.read_image.ensures c.if-state-ne8256.false c.in-Accepted.is c.held-refusal.ensures c.if-refusal-ne0.false
+pub returns : goal.returns
+returns c =
+    let h = c.held.ensures ∙ ap (λ P. held_answer P c.args.state.now c.args.live.now c.args.store.now) c.filled-program.ensures in
+    enters_accepted _ _ _ c.read_image.ensures c.if-state-ne8256.false c.in_ok-sizes.was (rw c.in_ok-held.was at h)

@@ -1,19 +1,9 @@
 -- `form::held` meets its contract. Assumes nothing.
-use native.Mathlib.Omega.{arith}
 use Rattle.form.specs.EntryLaws.{held_other, held_fits, held_not}
 use Rattle.form.proofs.held.Goals as goal
 
-pub tag-requires : goal.tag-requires
-tag-requires c = omega arith
-
 pub returns-then-tag-ne1 : goal.returns-then-tag-ne1
 returns-then-tag-ne1 c = held_other _ _ _ _ c.tag.ensures c.if-tag-ne1.true
-
-pub lent-requires : goal.lent-requires
-lent-requires c = omega arith
-
-pub lent-requires-2 : goal.lent-requires-2
-lent-requires-2 c = omega arith
 
 pub returns-then-in_form : goal.returns-then-in_form
 returns-then-in_form c = let a = c.args in held_fits _ a.state.now a.live.now a.store.now c.tag.ensures c.if-tag-ne1.false c.lent.ensures c.lent-2.ensures c.in_form.ensures c.if-in_form.true

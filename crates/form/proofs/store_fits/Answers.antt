@@ -11,14 +11,8 @@ returns-then-used-room c = store_long _ _ _ (omega (arith, length_cells c.args.s
 pub loop-at-init : goal.loop-at-init
 loop-at-init c = walked_first _ _ _
 
-pub object_fits-requires : goal.object_fits-requires
-object_fits-requires c = omega arith
-
 pub returns-then-not-object_fits : goal.returns-then-not-object_fits
 returns-then-not-object_fits c = walked_not c.loop-at.invariant c.loop-at-test.true c.object_fits.ensures (omega (arith, length_cells c.args.store.now)) (ap not c.if-not-object_fits.true)
-
-pub payload-requires : goal.payload-requires
-payload-requires c = omega arith
 
 pub overflow_add-at : goal.overflow_add-at
 overflow_add-at c = omega (arith, walked_ends c.loop-at.invariant c.loop-at-test.true c.object_fits.ensures c.payload.ensures (ap not c.if-not-object_fits.false))

@@ -10,9 +10,6 @@ returns-then-count-eq0 c = top_none _ _ _ c.if-count-eq0.true
 pub returns-then-res-ne0 : goal.returns-then-res-ne0
 returns-then-res-ne0 c = top_result _ _ _ c.if-res-ne0.true
 
-pub overflow_sub-count : goal.overflow_sub-count
-overflow_sub-count c = omega arith
-
 pub frames_size-top-requires : goal.frames_size-top-requires
 frames_size-top-requires c = let a = c.args in omega (arith, top_above a.count (cells a.live.now) c.if-count-eq0.false)
 

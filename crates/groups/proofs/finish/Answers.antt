@@ -1,6 +1,6 @@
 -- `groups::finish` meets its contract: laws of NeedLaws and EndLaws. Assumes nothing.
 use native.Mathlib.Omega.{arith}
-use Rattle.groups.specs.NeedLaws.{finish_settles, finish_ends, finish_fails, finish_closes, finish_ticks, finish_left}
+use Rattle.groups.specs.NeedLaws.{finish_settles, finish_ends, finish_fails, finish_closes}
 use Rattle.groups.specs.EndLaws.{finishes_paused, finishes_spent, finishes_refused, finishes_throws, finishes_closes}
 use Rattle.groups.proofs.finish.Goals as goal
 
@@ -16,17 +16,11 @@ settle-requires-in-Spent c = finish_settles c.requires
 pub settle-requires-in-Refused : goal.settle-requires-in-Refused
 settle-requires-in-Refused c = finish_settles c.requires
 
-pub fail-a-requires : goal.fail-a-requires
-fail-a-requires c = search finish_fails
-
-pub acted-requires : goal.acted-requires
-acted-requires c = (omega arith, search (finish_ticks, c.requires, c.in-Throws.in-Throws-own, c.in-Throws.known_told-in-Throws-1-own))
+pub fail-thrown-requires : goal.fail-thrown-requires
+fail-thrown-requires c = search finish_fails
 
 pub close-a-requires : goal.close-a-requires
 close-a-requires c = search finish_closes
-
-pub acted-requires-in-Closes : goal.acted-requires-in-Closes
-acted-requires-in-Closes c = (omega (arith, c.requires.low), search finish_left)
 
 pub returns-in-Paused : goal.returns-in-Paused
 returns-in-Paused c = search finishes_paused
@@ -38,7 +32,7 @@ pub returns-in-Refused : goal.returns-in-Refused
 returns-in-Refused c = search finishes_refused
 
 pub returns-in-Throws : goal.returns-in-Throws
-returns-in-Throws c = search finishes_throws
+returns-in-Throws c = finishes_throws c.end.ensures c.in-Throws.is c.fail-thrown.ensures (grind arith) c.acted.ensures
 
 pub returns-in-Closes : goal.returns-in-Closes
 returns-in-Closes c = search finishes_closes

@@ -5,14 +5,11 @@ use Rattle.groups.proofs.run.Goals as goal
 pub loop-r-init : goal.loop-r-init
 loop-r-init c = looping_first c.requires c.stands-r.ensures
 
-pub run_group-r-requires : goal.run_group-r-requires
-run_group-r-requires c = c.loop-r.invariant.next
-
 pub loop-r-smaller : goal.loop-r-smaller
-loop-r-smaller c = looping_less c.loop-r.invariant c.loop-r-test.true c.run_group-r.ensures
+loop-r-smaller c = looping_less c.loop-r.invariant c.in-GoesOn.is c.run_group-r.ensures
 
 pub loop-r-preserved : goal.loop-r-preserved
-loop-r-preserved c = looping_more c.loop-r.invariant c.loop-r-test.true c.run_group-r.ensures c.run_group-r.auto.args
+loop-r-preserved c = looping_more c.loop-r.invariant c.in-GoesOn.is c.run_group-r.ensures c.run_group-r.auto.args
 
 pub returns : goal.returns
-returns c = looping_ran c.stands-r.ensures c.loop-r.invariant c.loop-r-test.false
+returns c = looping_ran c.stands-r.ensures c.loop-r.invariant c.in_default.not-GoesOn

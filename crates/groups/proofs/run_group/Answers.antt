@@ -1,7 +1,7 @@
 -- `groups::run_group` meets its contract: laws of NeedLaws and GroupLaws, with the facts in hand given by their paths. Assumes nothing.
 use native.Mathlib.Omega.{arith}
 use mathlib.Core.Path.{refl, sym, ◌∙◌}
-use Rattle.groups.specs.NeedLaws.{group_within, group_base, group_callback, group_tops, group_small}
+use Rattle.groups.specs.NeedLaws.{group_base, group_callback, group_tops}
 use Rattle.groups.specs.GroupLaws.{group_empty, group_result, group_waits, group_pauses, group_performs, group_lucia}
 use Rattle.groups.proofs.run_group.Goals as goal
 
@@ -10,15 +10,6 @@ returns-then-c-eq0 c = group_empty c.if-c-eq0.true c.stands.ensures
 
 pub returns-then-result_kind-ne0 : goal.returns-then-result_kind-ne0
 returns-then-result_kind-ne0 c = group_result c.result_kind.ensures c.if-result_kind-ne0.true c.stands-then-result_kind-ne0.ensures
-
-pub offset_bounds-starts-last : goal.offset_bounds-starts-last
-offset_bounds-starts-last c = omega (arith, (group_small c.requires).0)
-
-pub bounds-starts-last : goal.bounds-starts-last
-bounds-starts-last c = group_within c.requires c.if-c-eq0.false
-
-pub overflow_cast-base : goal.overflow_cast-base
-overflow_cast-base c = omega (arith, group_base c.requires c.if-c-eq0.false c.result_kind.ensures c.if-result_kind-ne0.false refl, (group_small c.requires).2)
 
 pub tag-kind-requires : goal.tag-kind-requires
 tag-kind-requires c = omega (arith, group_base c.requires c.if-c-eq0.false c.result_kind.ensures c.if-result_kind-ne0.false refl)

@@ -1,4 +1,4 @@
--- `ints::neg` meets its contract: what with a makes 0 modulo 2^64. Assumes nothing.
+-- `ints::neg` meets its contract. Assumes nothing.
 use Rattle.ints.specs.Ints.{half}
 use Rattle.ints.proofs.Laws.{neg_is}
 use Rattle.ints.proofs.neg.Goals as goal

@@ -8,7 +8,7 @@ decreases-read_code l = l.depth
 
 abbrev pub invariant-loop-at : goal.invariant-loop-at
 invariant-loop-at l =
-    Reading l.depth l.base l.part l.initial.rows l.initial.constants l.initial.inner l.initial.next l.initial.top l.initial.held l.initial.at l.numbers l.count l.next l.top l.held l.at l.rows l.constants l.inner
+    Reading l.depth l.base l.part l.initial.rows l.initial.constants l.initial.inner l.initial.now l.initial.at l.numbers l.count l.now l.at l.rows l.constants l.inner
 
 abbrev pub decreases-loop-at : goal.decreases-loop-at
 decreases-loop-at l = length l.part - l.at

@@ -1,9 +1,6 @@
 -- `layout::begin` meets its contract. Assumes nothing.
-use Rattle.layout.specs.Tables.{front_of, begin_not}
+use Rattle.layout.specs.Tables.{begin_not}
 use Rattle.layout.proofs.begin.Goals as goal
 
-pub begin_front-requires : goal.begin_front-requires
-begin_front-requires c = search front_of
-
-pub returns : goal.returns
-returns c = search begin_not
+pub returns-then-not-is_front : goal.returns-then-not-is_front
+returns-then-not-is_front c = search begin_not

@@ -1,14 +1,10 @@
 -- `layout::is_effect_sized` meets its contract. Assumes nothing.
-use native.Mathlib.Omega.{arith}
 use Rattle.layout.specs.ImageLaws.{effect_short, effect_builtin, effect_named, effect_other}
 use borrow.Author.Rules.{rules}
 use Rattle.layout.proofs.is_effect_sized.Goals as goal
 
 pub returns-then-n-lt2 : goal.returns-then-n-lt2
 returns-then-n-lt2 c = search effect_short
-
-pub read16-requires : goal.read16-requires
-read16-requires c = omega arith
 
 pub returns-in-3 : goal.returns-in-3
 returns-in-3 c = search effect_named

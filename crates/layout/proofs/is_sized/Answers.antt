@@ -1,14 +1,7 @@
 -- `layout::is_sized` meets its contract. Assumes nothing.
-use native.Mathlib.Omega.{arith}
 use Rattle.layout.specs.ImageLaws.{sized_16, sized_17, sized_18, sized_20, sized_22, sized_23, sized_low, sized_high}
 use borrow.Author.Rules.{rules}
 use Rattle.layout.proofs.is_sized.Goals as goal
-
-pub kind-requires : goal.kind-requires
-kind-requires c = omega arith
-
-pub overflow_add-at : goal.overflow_add-at
-overflow_add-at c = omega arith
 
 pub returns-in-16 : goal.returns-in-16
 returns-in-16 c = search sized_16

@@ -34,8 +34,8 @@ new_object-requires c = (search rules, omega (arith, c.end-2.ensures, ap (λ (g 
 pub overflow_cast-list : goal.overflow_cast-list
 overflow_cast-list c = omega arith
 
-pub push-requires : goal.push-requires
-push-requires c = omega arith
+pub push-g-requires : goal.push-g-requires
+push-g-requires c = omega arith
 
 pub overflow_add-result : goal.overflow_add-result
 overflow_add-result c = omega arith

@@ -2,8 +2,8 @@
 use Rattle.operators.specs.Computing.{divided_of, divided_zero}
 use Rattle.operators.proofs.divided.Goals as goal
 
-pub returns-in-Of : goal.returns-in-Of
-returns-in-Of c = search divided_of
+pub returns-in-Some : goal.returns-in-Some
+returns-in-Some c = search divided_of
 
-pub returns-in-ZeroDivisor : goal.returns-in-ZeroDivisor
-returns-in-ZeroDivisor c = search divided_zero
+pub returns-in-None : goal.returns-in-None
+returns-in-None c = search divided_zero

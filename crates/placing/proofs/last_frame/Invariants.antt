@@ -6,8 +6,5 @@ use Rattle.memory.specs.View.{frames_size}
 use Rattle.moves.specs.Objects.{Walks}
 use Rattle.placing.proofs.last_frame.Given as goal
 
-abbrev pub invariant-loop-left : goal.invariant-loop-left
-invariant-loop-left l = Walks (cells l.x) (l.from + frames_size (l.count - 1) (drop l.from (cells l.x))) l.at l.left
-
-abbrev pub decreases-loop-left : goal.decreases-loop-left
-decreases-loop-left l = l.left
+abbrev pub invariant-loop : goal.invariant-loop
+invariant-loop l = Walks (cells l.x) (l.from + frames_size (l.count - 1) (drop l.from (cells l.x))) l.at (l.count + 1 - l.counter)

@@ -1,20 +1,12 @@
 -- `readings::get_value` meets its contract. Assumes nothing.
-use native.Mathlib.Omega.{arith}
-use Rattle.readings.specs.ReadingLaws.{room_for}
-use Rattle.readings.specs.ReadingLaws.{reading_not, reading_over, reading_in}
+use Rattle.readings.specs.ReadingLaws.{room_for, reading_over, reading_in}
 use Rattle.readings.proofs.get_value.Goals as goal
 
 pub returns-then-number-ge256 : goal.returns-then-number-ge256
-returns-then-number-ge256 c = search (reading_not, reading_over, reading_in)
-
-pub overflow_add-first : goal.overflow_add-first
-overflow_add-first c = omega arith
+returns-then-number-ge256 c = reading_over _ _ _ _ c.entered.ensures c.in_ok-entered.was c.if-number-ge256.true
 
 pub get-requires : goal.get-requires
-get-requires c = search room_for
+get-requires c = room_for _ _ _ _ c.entered.ensures c.in_ok-entered.was c.requires c.if-number-ge256.false
 
-pub returns-in-Refused : goal.returns-in-Refused
-returns-in-Refused c = search (reading_not, reading_over, reading_in)
-
-pub returns-else-number-ge256 : goal.returns-else-number-ge256
-returns-else-number-ge256 c = search (reading_not, reading_over, reading_in)
+pub returns : goal.returns
+returns c = reading_in _ _ _ _ c.entered.ensures c.in_ok-entered.was c.if-number-ge256.false c.get.ensures.0

@@ -1,29 +1,19 @@
 -- `readings::line_of` meets its contract: the loop keeps `Seeking`. Assumes nothing.
-use native.Mathlib.Omega.{arith}
-use Rattle.readings.specs.Lines.{seeking_first, seeking_line, seeking_byte, line_found, line_missing}
+use Rattle.std.proofs.Common.{◌∙◌}
+use Rattle.readings.specs.Lines.{seeking_first, seeking_none, seeking_next, seeking_found}
 use Rattle.readings.proofs.line_of.Goals as goal
-use Rattle.readings.proofs.line_of.Goals.{then-page-i-eq10+else-left-eq0, else-page-i-eq10}
 
-pub loop-i-init : goal.loop-i-init
-loop-i-init c = seeking_first _ _
+pub loop-init : goal.loop-init
+loop-init c = seeking_first _ _
 
-pub returns-then-left-eq0 : goal.returns-then-left-eq0
-returns-then-left-eq0 c = search line_found
+pub returns-in_err-start : goal.returns-in_err-start
+returns-in_err-start c = c.from_residual.ensures ∙ seeking_none c.loop.invariant c.before_feed.ensures c.in_err-start.was
 
-pub overflow_sub-left : goal.overflow_sub-left
-overflow_sub-left c = omega arith
+pub loop-preserved : goal.loop-preserved
+loop-preserved c = seeking_next c.loop.invariant c.before_feed.ensures c.in_ok-start.was c.loop-test.true
 
-pub overflow_add-start : goal.overflow_add-start
-overflow_add-start c = omega arith
-
-pub overflow_add-i : goal.overflow_add-i
-overflow_add-i c = omega arith
-
-pub loop-i-smaller : goal.loop-i-smaller
-loop-i-smaller c = omega arith
-
-pub loop-i-preserved : goal.loop-i-preserved
-loop-i-preserved c = elim c.if-page-i-eq10.branch [ then-page-i-eq10+else-left-eq0 w ↦ search seeking_line | else-page-i-eq10 w ↦ search seeking_byte ]
+pub returns-in_err-size : goal.returns-in_err-size
+returns-in_err-size c = c.from_residual-in_err-size.ensures ∙ seeking_none c.loop.invariant c.before_feed-2.ensures c.in_err-size.was
 
 pub returns : goal.returns
-returns c = search line_missing
+returns c = seeking_found c.loop.invariant c.before_feed-2.ensures c.in_ok-size.was c.loop-test.false

@@ -1,5 +1,4 @@
 -- `replies::effects_fit` meets its contract. Assumes nothing.
-use native.Mathlib.Omega.{arith}
 use Rattle.scan.specs.Passed.{passed_none}
 use Rattle.replies.specs.FitLaws.{cells_not, cells_more, cells_all}
 use Rattle.replies.proofs.effects_fit.Goals as goal
@@ -7,17 +6,8 @@ use Rattle.replies.proofs.effects_fit.Goals as goal
 pub loop-i-init : goal.loop-i-init
 loop-i-init c = passed_none _ _ _ _
 
-pub get-e-requires : goal.get-e-requires
-get-e-requires c = omega arith
-
 pub returns-then-not-effect_fits : goal.returns-then-not-effect_fits
 returns-then-not-effect_fits c = search cells_not
-
-pub overflow_add-i : goal.overflow_add-i
-overflow_add-i c = omega arith
-
-pub loop-i-smaller : goal.loop-i-smaller
-loop-i-smaller c = omega arith
 
 pub loop-i-preserved : goal.loop-i-preserved
 loop-i-preserved c = search cells_more

@@ -1,13 +1,9 @@
 -- `replies::effects_fit` meets its contract. Assumes nothing.
-use Prim.Native.Nat.{◌-◌}
 use Rattle.cells.specs.Cells.{cells}
 use Rattle.memory.specs.Tests.{effect_fits}
-use Rattle.scan.specs.Tables.{program_in}
+use Rattle.scan.specs.Tables.{program_of}
 use Rattle.scan.specs.Passed.{Passed}
 use Rattle.replies.proofs.effects_fit.Given as goal
 
 abbrev pub invariant-loop-i : goal.invariant-loop-i
-invariant-loop-i l = Passed (effect_fits (program_in l.image l.rows l.constants l.inner l.codes) (cells l.store) l.used) l.x 0 l.n l.i
-
-abbrev pub decreases-loop-i : goal.decreases-loop-i
-decreases-loop-i l = l.n - l.i
+invariant-loop-i l = Passed (effect_fits (program_of l.program) (cells l.store) l.used) l.x 0 l.n l.i

@@ -1,5 +1,4 @@
 -- `replies::return_of` meets its contract. Assumes nothing.
-use native.Mathlib.Omega.{arith}
 use mathlib.Core.Path.{refl}
 use Rattle.requests.specs.Sent.{kind_of}
 use Rattle.replies.specs.KindLaws.{odd_args, odd_handlers, kind_call, kind_handlers, kind_neither, kind_unknown}
@@ -10,9 +9,6 @@ returns-then-args-ne0 c = search odd_args
 
 pub returns-then-handlers-ne0 : goal.returns-then-handlers-ne0
 returns-then-handlers-ne0 c = search odd_handlers
-
-pub overflow_add-all : goal.overflow_add-all
-overflow_add-all c = omega arith
 
 pub returns-in-0 : goal.returns-in-0
 returns-in-0 c = search kind_call

@@ -1,5 +1,4 @@
 -- `requests::called_fits` meets its contract. Assumes nothing.
-use native.Mathlib.Omega.{arith}
 use Rattle.requests.specs.FitLaws.{no_value, no_function_lem, too_many, called_fits_lem}
 use Rattle.requests.proofs.called_fits.Goals as goal
 
@@ -9,14 +8,8 @@ returns-then-not-value_fits c = search no_value
 pub returns-then-not-is_function : goal.returns-then-not-is_function
 returns-then-not-is_function c = search no_function_lem
 
-pub overflow_add-n : goal.overflow_add-n
-overflow_add-n c = omega arith
-
 pub returns-then-n-handlers-gt4096 : goal.returns-then-n-handlers-gt4096
 returns-then-n-handlers-gt4096 c = search too_many
-
-pub values_fit-requires : goal.values_fit-requires
-values_fit-requires c = omega arith
 
 pub returns : goal.returns
 returns c = search called_fits_lem

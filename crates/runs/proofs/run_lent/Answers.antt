@@ -1,5 +1,8 @@
 -- `runs::run_lent` meets its contract: a wait is out of turn, else the groups run and the state block shows what they leave. Assumes nothing.
 use Rattle.runs.specs.LentLaws.{lent_starts, lent_live, lent_groupable, lent_leavable, lent_waits, lent_ends, lent_turn}
+use Rattle.groups.specs.StandLaws.{waits_host}
+use Rattle.groups.specs.Grouped.{code_of}
+use mathlib.Core.Path.{ap}
 use native.Mathlib.Omega.{arith}
 use borrow.Author.Rules.{rules}
 use Rattle.runs.proofs.run_lent.Goals as goal
@@ -19,11 +22,11 @@ run-r-requires c = lent_groupable c.requires c.frames-frames.ensures c.starts-en
 pub leave-requires : goal.leave-requires
 leave-requires c = lent_leavable c.requires c.frames-frames.ensures c.starts-end.ensures (search) c.payload.ensures c.used.ensures c.slice-left.ensures c.run-r.ensures
 
-pub returns-then-r-eq103 : goal.returns-then-r-eq103
-returns-then-r-eq103 c = lent_waits c.requires c.frames-frames.ensures c.starts-end.ensures (search) c.payload.ensures c.used.ensures c.slice-left.ensures c.run-r.ensures c.waits.ensures c.if-waits-ne0.false c.if-r-eq103.true c.leave.ensures
+pub returns-in-Host : goal.returns-in-Host
+returns-in-Host c = lent_waits c.requires c.frames-frames.ensures c.starts-end.ensures (search) c.payload.ensures c.used.ensures c.slice-left.ensures c.run-r.ensures c.waits.ensures c.if-waits-ne0.false (ap code_of c.in-Host.is) c.leave.ensures
 
 pub leave-requires-2 : goal.leave-requires-2
 leave-requires-2 c = lent_leavable c.requires c.frames-frames.ensures c.starts-end.ensures (search) c.payload.ensures c.used.ensures c.slice-left.ensures c.run-r.ensures
 
 pub returns : goal.returns
-returns c = lent_ends c.requires c.frames-frames.ensures c.starts-end.ensures (search) c.payload.ensures c.used.ensures c.slice-left.ensures c.run-r.ensures c.waits.ensures c.if-waits-ne0.false c.if-r-eq103.false c.leave-2.ensures
+returns c = lent_ends c.requires c.frames-frames.ensures c.starts-end.ensures (search) c.payload.ensures c.used.ensures c.slice-left.ensures c.run-r.ensures c.waits.ensures c.if-waits-ne0.false (λ e. c.in_default.not-Host (waits_host _ e)) c.leave-2.ensures

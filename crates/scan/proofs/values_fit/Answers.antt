@@ -1,5 +1,4 @@
 -- `scan::values_fit` meets its contract. Assumes nothing.
-use native.Mathlib.Omega.{arith}
 use borrow.Author.Rules.{rules}
 use mathlib.Core.Path.{refl}
 use Rattle.scan.specs.Values.{told, plain_fits}
@@ -11,20 +10,8 @@ use Rattle.scan.proofs.values_fit.Goals.{then-not-is_plain+else-not-value_fits, 
 pub loop-i-init : goal.loop-i-init
 loop-i-init c = passed_none _ _ _ _
 
-pub overflow_add-from : goal.overflow_add-from
-overflow_add-from c = omega arith
-
-pub get-v-requires : goal.get-v-requires
-get-v-requires c = omega arith
-
 pub returns-then-not-value_fits : goal.returns-then-not-value_fits
 returns-then-not-value_fits c = search passed_not
-
-pub overflow_add-i : goal.overflow_add-i
-overflow_add-i c = omega arith
-
-pub loop-i-smaller : goal.loop-i-smaller
-loop-i-smaller c = omega arith
 
 pub loop-i-preserved : goal.loop-i-preserved
 loop-i-preserved c = passed_more c.loop-i.invariant (search rules) (search rules) c.get-v.ensures

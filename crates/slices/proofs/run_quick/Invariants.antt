@@ -3,7 +3,7 @@ use Rattle.slices.specs.Looping.{Looping}
 use Rattle.slices.proofs.run_quick.Given as goal
 
 abbrev pub invariant-loop-ticks : goal.invariant-loop-ticks
-invariant-loop-ticks l = Looping l.image l.rows l.constants l.inner l.codes l.initial.g l.handle l.code l.used l.begun l.given l.state l.initial.live l.store l.g l.used l.left l.ticks l.state l.live l.store
+invariant-loop-ticks l = Looping l.program.image.now l.program.rows.now l.program.constants.now l.program.inner.now l.program.codes l.initial.g l.handle l.code l.used l.begun l.given l.state l.initial.live l.store l.g l.used l.left l.ticks l.state l.live l.store
 
 abbrev pub decreases-loop-ticks : goal.decreases-loop-ticks
 decreases-loop-ticks l = l.ticks

@@ -2,8 +2,8 @@
 use Rattle.steps.specs.Families.{made_on, made_refused}
 use Rattle.steps.proofs.from_made.Goals as goal
 
-pub returns-in-On : goal.returns-in-On
-returns-in-On c = search made_on
+pub returns-in-Ok : goal.returns-in-Ok
+returns-in-Ok c = search made_on
 
-pub returns-in-Refused : goal.returns-in-Refused
-returns-in-Refused c = search made_refused
+pub returns-in-Err : goal.returns-in-Err
+returns-in-Err c = search made_refused

@@ -3,35 +3,22 @@ use Rattle.loans.specs.LoanLaws.{used_fits, loans_entered}
 use Rattle.turns.specs.TurnLaws.{loans_sent}
 use lib.Seq.{length-take-le}
 use mathlib.Core.Path.{refl, sym}
-use native.Mathlib.Omega.{arith}
 use Rattle.turns.proofs.start_entered.Goals as goal
 
-pub overflow_mul-end : goal.overflow_mul-end
-overflow_mul-end c = omega arith
-
 pub slice_bounds-start-end : goal.slice_bounds-start-end
-slice_bounds-start-end c = sym (length-take-le _ _ (omega (arith, c.requires.0.codes, c.requires.0.rows)))
+slice_bounds-start-end c = used_fits _ _ c.lent_bytes-l.ensures
 
 pub slice_bounds-start-end-2 : goal.slice_bounds-start-end-2
-slice_bounds-start-end-2 c = sym (length-take-le _ _ c.requires.0.constants)
+slice_bounds-start-end-2 c = sym (length-take-le _ _ (used_fits _ _ c.lent_bytes-l.ensures))
 
 pub slice_bounds-start-end-3 : goal.slice_bounds-start-end-3
-slice_bounds-start-end-3 c = sym (length-take-le _ _ c.requires.0.inner)
+slice_bounds-start-end-3 c = used_fits _ _ c.lent_bytes-s.ensures
 
 pub slice_bounds-start-end-4 : goal.slice_bounds-start-end-4
-slice_bounds-start-end-4 c = used_fits _ _ c.lent_bytes-l.ensures
-
-pub slice_bounds-start-end-5 : goal.slice_bounds-start-end-5
-slice_bounds-start-end-5 c = sym (length-take-le _ _ (used_fits _ _ c.lent_bytes-l.ensures))
-
-pub slice_bounds-start-end-6 : goal.slice_bounds-start-end-6
-slice_bounds-start-end-6 c = used_fits _ _ c.lent_bytes-s.ensures
-
-pub slice_bounds-start-end-7 : goal.slice_bounds-start-end-7
-slice_bounds-start-end-7 c = sym (length-take-le _ _ (used_fits _ _ c.lent_bytes-s.ensures))
+slice_bounds-start-end-4 c = sym (length-take-le _ _ (used_fits _ _ c.lent_bytes-s.ensures))
 
 pub start-requires : goal.start-requires
-start-requires c = loans_entered c.args.live.now c.args.store.now c.lent_bytes-l.ensures c.lent_bytes-s.ensures c.requires.1
+start-requires c = loans_entered c.args.live.now c.args.store.now c.lent_bytes-l.ensures c.lent_bytes-s.ensures c.requires
 
 pub returns : goal.returns
 returns c = loans_sent _ _ c.lent_bytes-l.ensures c.lent_bytes-s.ensures c.start.ensures refl refl

@@ -1,11 +1,6 @@
 -- `utf8::past_ascii` meets its contract. The loop carries `Passed`. Assumes nothing.
-use Prim.Native.Nat.{◌-◌}
-use lib.ListN.{length}
 use Rattle.utf8.specs.Ascii.{Passed}
 use Rattle.utf8.proofs.past_ascii.Given as goal
 
 abbrev pub invariant-loop-i : goal.invariant-loop-i
 invariant-loop-i l = Passed l.s l.from l.i
-
-abbrev pub decreases-loop-i : goal.decreases-loop-i
-decreases-loop-i l = length l.s - l.i

@@ -1,12 +1,10 @@
 -- `values::shown` meets its contract. Assumes nothing.
-use Rattle.values.specs.Errors.{shows_value, shows_none, shows_message}
+use Rattle.values.specs.Errors.{shows_value, shows_message}
+use Rattle.std.proofs.Common.{inl, inr}
 use Rattle.values.proofs.shown.Goals as goal
 
-pub returns-then-x-gt8 : goal.returns-then-x-gt8
-returns-then-x-gt8 c = search shows_value
+pub returns-in-Error : goal.returns-in-Error
+returns-in-Error c = search (shows_value, inl, inr)
 
-pub returns-then-x-lt3 : goal.returns-then-x-lt3
-returns-then-x-lt3 c = search shows_none
-
-pub returns : goal.returns
-returns c = search shows_message
+pub returns-in_default : goal.returns-in_default
+returns-in_default c = search shows_message

@@ -2,8 +2,8 @@
 use Rattle.values.specs.Errors.{throws_panic, throws_error}
 use Rattle.values.proofs.thrown.Goals as goal
 
-pub returns-then-x-eq10 : goal.returns-then-x-eq10
-returns-then-x-eq10 c = search throws_panic
+pub returns-in-Panic : goal.returns-in-Panic
+returns-in-Panic c = search throws_panic
 
-pub returns : goal.returns
-returns c = search throws_error
+pub returns-in_default : goal.returns-in_default
+returns-in_default c = search throws_error

@@ -1,5 +1,0 @@
--- `main` ends: the rows left fall.
-use Rattle.fuel_replay.proofs.main.Given as goal
-
-abbrev pub decreases-loop-rows : goal.decreases-loop-rows
-decreases-loop-rows l = l.rows

@@ -1,0 +1,44 @@
+-- Where a run stands, by its code.
+use Rattle.std.specs.Prelude.{◌≡◌, refl, ◌≤◌}
+use Rattle.std.proofs.Common.{arith}
+use Rattle.refusals.specs.declared.Refusal.{Refusal}
+use Rattle.refusals.specs.declared.Refusal.TheVariants.{ImageSize, ImageStructure, ImageNumber, ImageCodes, BadValue, BadLoan, NotInForm, NotLoaded, OutOfTurn, FewValues, ManyFrames, LiveFull, StoreFull, ManyHandlers}
+use Rattle.refusals.specs.Refusals.{number}
+use Rattle.acts.specs.ActedLaws.{numbered}
+use Rattle.groups.specs.declared.Stand.{Stand}
+use Rattle.groups.specs.declared.Stand.TheVariants as stand
+use Rattle.groups.specs.Grouped.{code_of}
+
+-- only what goes on has the code 0
+pub goes_on : (s : Stand) → code_of s ≡ 0 → s ≡ stand.GoesOn
+goes_on stand.GoesOn e = refl
+goes_on stand.Done e = absurd (omega (arith, e))
+goes_on stand.OutOfFuel e = absurd (omega (arith, e))
+goes_on stand.Paused e = absurd (omega (arith, e))
+goes_on stand.Host e = absurd (omega (arith, e))
+goes_on (stand.Refused o) e = absurd (omega (arith, numbered o, e))
+
+numbered_low : (r : Refusal) → number r ≤ 16
+numbered_low ImageSize = omega arith
+numbered_low ImageStructure = omega arith
+numbered_low ImageNumber = omega arith
+numbered_low ImageCodes = omega arith
+numbered_low BadValue = omega arith
+numbered_low BadLoan = omega arith
+numbered_low NotInForm = omega arith
+numbered_low NotLoaded = omega arith
+numbered_low OutOfTurn = omega arith
+numbered_low FewValues = omega arith
+numbered_low ManyFrames = omega arith
+numbered_low LiveFull = omega arith
+numbered_low StoreFull = omega arith
+numbered_low ManyHandlers = omega arith
+
+-- and only the host's turn the code 103
+pub waits_host : (s : Stand) → code_of s ≡ 103 → s ≡ stand.Host
+waits_host stand.GoesOn e = absurd (omega (arith, e))
+waits_host stand.Done e = absurd (omega (arith, e))
+waits_host stand.OutOfFuel e = absurd (omega (arith, e))
+waits_host stand.Paused e = absurd (omega (arith, e))
+waits_host stand.Host e = refl
+waits_host (stand.Refused o) e = absurd (omega (arith, numbered_low o, e))

@@ -1,0 +1,2 @@
+-- Laws: what `all` answers over a range.
+pub mod Ranges
