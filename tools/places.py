@@ -60,7 +60,7 @@ def flags(crate, text):
         refused = 'refusal' in name or re.search(r'\b(refusal|code|no) != 0', body) or numbered
         if result in ('u32', 'usize') and refused:
             yield name
-        elif name in NONE and (result in ('u32', 'u64', 'usize', 'Lead') or name == 'leave'):
+        elif name in NONE and (result in ('u32', 'u64', 'usize', 'Lead') or 'wait: u32' in params):
             yield name
     for m in re.finditer(r'^pub struct (\w+) \{\n(.*?)^\}', text, re.M | re.S):
         above = text[max(0, m.start() - 40):m.start()]
@@ -96,9 +96,13 @@ def refusal_numbers(crate, text):
 
 
 def kind_numbers(crate, text):
-    """Lines that test or write a kind (a tag, a frame's kind, an opcode, an error's kind) as a number."""
+    """Lines that test or write a kind (a tag, a frame's kind, an opcode, an error's kind) as a number, but for those of
+    `try_from`, where a number becomes a name, and for contracts."""
+    text = re.sub(r'^( *)fn try_from\(.*?^\1\}', '', text, flags=re.M | re.S)
     for line in text.split('\n'):
         code = line.split('//')[0]
+        if re.match(r'\s*(requires|ensures) ', code):
+            continue
         if re.search(r'\b(tag|kind|op|from|number)\b(\([^()]*\))? (==|!=|<|>|<=|>=) \d', code):
             yield line.strip()
         elif re.search(r'\b(tag|kind): \d', code):

@@ -9,7 +9,6 @@ use Rattle.cells.specs.Cells.{room, cells, Writes}
 use Rattle.cells.specs.CellsLaws.{length_cells}
 use Rattle.cells.specs.Moves.{paste_is}
 use Rattle.cells.specs.declared.Cell.{Cell}
-use Rattle.machine.specs.Values as v
 use Rattle.machine.specs.Values.{Program}
 use Rattle.machine.specs.Machine.{Frame, Object, continuation, Result, running, returned, failed, unhandled, M, with_result, with_store, frames_cost, result_cost, used, receive}
 use Rattle.machine.specs.Calls.{World}
@@ -23,6 +22,7 @@ use Rattle.moves.specs.Objects.{Stored}
 use Rattle.moves.specs.Starts.{lower}
 use Rattle.states.specs.Worlds.{Resulted, Changes, with_outcome}
 use Rattle.plan.specs.Rest.{Same, Appends, counts_of, Begins, Block, Rests}
+use Rattle.plan.proofs.RestLaws.{same_refl}
 use Rattle.plan.specs.Plans.{Handled, Failed, Received, Carries}
 use Rattle.plan.specs.declared.Counts.{Counts}
 use Rattle.plan.specs.declared.Error.{Error}
@@ -35,13 +35,10 @@ use Rattle.actions.specs.Acted as acted
 use Rattle.actions.specs.Acted.{Roomy, Carriable, CarriesOut, Startable, StartsFrame, Resumable}
 use Rattle.actions.specs.Tables.{lower_onto, lower_all, begins_top}
 use Rattle.actions.specs.Moved.{count_is, cost_is, flat_is, appends_unwritten}
-use Rattle.plan.specs.Kinds.{kind_number}
-use Rattle.plan.proofs.ErrorLaws.{kind_is}
+use Rattle.results.specs.Results.{kind_number}
+use Rattle.plan.proofs.ErrorLaws.{shown_is}
 
 -- ---- At rest, and lying in memory
-same : (x : List ℕ) → Same x x
-same x = record { rest = refl; len = refl }
-
 rests_lies : {m : M} {c : Counts} {B : List Cell} {live store starts : List ℕ} → Rests m c B (cells live) (cells store) starts → m.result ≡ running → Lies m c live store starts
 rests_lies {m} r q = record {
   counts = r.counts;
@@ -209,7 +206,7 @@ module _ {plan : Plan} {args : List Cell} {c : Counts} (state : List ℕ) {live 
       → length starts' ≡ length starts → CarriesOut plan args c state live store starts state live' store' starts'
   out_by f a b g t = record {
     rests = λ P m m' d q r o. let k = f P m m' d (rests_lies r q) o in lies_rests k.0 k.1 r.block;
-    same_state = same state;
+    same_state = same_refl state;
     same_live = a;
     same_store = b;
     appends = λ P m m' d q r o. g P m m' d (rests_lies r q) o;
@@ -221,7 +218,7 @@ module _ {plan : Plan} {args : List Cell} {c : Counts} (state : List ℕ) {live 
 
 module _ {plan : Plan} {args : List Cell} {c : Counts} (state : List ℕ) {live store starts live' starts' : List ℕ} where
   pub resumes_leaves : {h : ℕ} {v : Cell} → plan ≡ Resumes h v → acted.Resumes c h v live store starts live' starts' → CarriesOut plan args c state live store starts state live' store starts'
-  resumes_leaves e w = out_by state (λ P m m' d l o. let r = turned P args m m' e d in (w.lies m m' r l o, keeps _ m.store r.after)) w.same_live (same store) (λ P m m' d l o. w.appends m m' (turned P args m m' e d) l o) w.table
+  resumes_leaves e w = out_by state (λ P m m' d l o. let r = turned P args m m' e d in (w.lies m m' r l o, keeps _ m.store r.after)) w.same_live (same_refl store) (λ P m m' d l o. w.appends m m' (turned P args m m' e d) l o) w.table
 
 module _ {plan : Plan} {args : List Cell} {c : Counts} (state : List ℕ) {live store starts live' store' : List ℕ} where
   pub handles_leaves : {i j : ℕ} {x : Cell} {p : Params} → plan ≡ Handles i j x p → Captures c i j x p args starts live store live' store' → CarriesOut plan args c state live store starts state live' store' starts
@@ -232,7 +229,7 @@ module _ {plan : Plan} {args : List Cell} {c : Counts} (state : List ℕ) {live 
 
 module _ {plan : Plan} {args : List Cell} {c : Counts} (state : List ℕ) {live : List ℕ} (store : List ℕ) {starts live' : List ℕ} where
   pub receives_leaves : {v : Cell} {base n : ℕ} → plan ≡ Receives v → base ≡ get_or starts (c.frames - 1) 0 → Gets (receive v) base live n live' → CarriesOut plan args c state live store starts state live' store starts
-  receives_leaves {v} e b g = out_by state (λ P m m' d l o. received_lies (turned P args m m' e d) l b g) (record { rest = g.rest; len = g.len }) (same store)
+  receives_leaves {v} e b g = out_by state (λ P m m' d l o. received_lies (turned P args m m' e d) l b g) (record { rest = g.rest; len = g.len }) (same_refl store)
       (λ P m m' d l o. let r : Received v m m' = turned P args m m' e d in appends_unwritten l (ap (λ (x : M). x.store) r.after)) refl
 
 pub stays_leaves : {plan : Plan} (args : List Cell) (c : Counts) (state live store starts : List ℕ) → plan ≡ Stays → CarriesOut plan args c state live store starts state live store starts
@@ -240,9 +237,9 @@ stays_leaves args c state live store starts e = record {
   rests = λ P m m' d q r o.
       let y : m' ≡ m = turned P args m m' e d in
       rw y (subst (λ (k : Counts). Rests m k (cells state) (cells live) (cells store) starts) r.counts r);
-  same_state = same state;
-  same_live = same live;
-  same_store = same store;
+  same_state = same_refl state;
+  same_live = same_refl live;
+  same_store = same_refl store;
   appends = λ P m m' d q r o. let y : m' ≡ m = turned P args m m' e d in appends_unwritten (rests_lies r q) (ap (λ (x : M). x.store) y);
   table = refl;
 }
@@ -273,17 +270,6 @@ behind_none : {m : M} {c : Counts} {B L S : List Cell} {starts : List ℕ} (o : 
 unfolding result_shown
 behind_none {m} o q = o.live ∙ ap (λ (r : Result). flat m.frames ++ ((result_shown r).args ++ o.free)) q
 
-error_args : (x : v.Error) → (error_shown x).args ≡ []
-unfolding error_shown
-error_args (v.call_arguments a b d) = refl
-error_args (v.un_operator a b d) = refl
-error_args (v.bin_operator a b d e) = refl
-error_args (v.meta_un_operator a b) = refl
-error_args (v.meta_bin_operator a b d) = refl
-error_args v.zero_divisor = refl
-error_args (v.lucia_error a) = refl
-error_args (v.lucia_panic a) = refl
-
 changes_same : {to : World → World → Type 0} {old new : List ℕ} → Changes to old new → Same old new
 changes_same w = record { rest = w.rest; len = w.len }
 
@@ -295,8 +281,8 @@ module _ {plan : Plan} (args : List Cell) (c : Counts) {state state' : List ℕ}
         let y : m' ≡ with_result (returned v) m = turned P args m m' e d in
         rw y (rests_result (returned v) r w refl refl refl refl r.free (behind_none r q));
     same_state = changes_same w;
-    same_live = same live;
-    same_store = same store;
+    same_live = same_refl live;
+    same_store = same_refl store;
     appends = λ P m m' d q r o. let y : m' ≡ with_result (returned v) m = turned P args m m' e d in appends_unwritten (rests_lies r q) (ap (λ (x : M). x.store) y);
     table = refl;
   }
@@ -306,12 +292,12 @@ module _ {plan : Plan} (args : List Cell) (c : Counts) {state state' : List ℕ}
   fails_leaves {x} e w = record {
     rests = λ P m m' d q r o.
         let f : Failed x m m' = turned P args m m' e d in
-        let z : (error_shown f.error).args ≡ [] = error_args f.error in
-        rw f.after (rests_result (failed f.error) r w (ap (λ (y : Error). kind_number y.kind) f.is ∙ kind_is f.error) (ap (λ (y : Error). y.value) f.is) (ap (λ (y : Error). y.second) f.is) (sym (ap length z)) r.free
+        let z : (error_shown f.error).args ≡ [] = (shown_is f.error).2 in
+        rw f.after (rests_result (failed f.error) r w (ap (λ (y : Error). kind_number y.kind) f.is ∙ (shown_is f.error).0) (ap (λ (y : Error). y.value) f.is) (ap (λ (y : Error). y.second) f.is) (sym (ap length z)) r.free
         (behind_none r q ∙ ap (λ (a : List Cell). flat m.frames ++ (a ++ r.free)) (sym z)));
     same_state = changes_same w;
-    same_live = same live;
-    same_store = same store;
+    same_live = same_refl live;
+    same_store = same_refl store;
     appends = λ P m m' d q r o. let f : Failed x m m' = turned P args m m' e d in appends_unwritten (rests_lies r q) (ap (λ (y : M). y.store) f.after);
     table = refl;
   }
@@ -331,7 +317,7 @@ unhandled_leaves args {c} {state} {state'} {live} {live'} store starts {x} {n} e
       (u.cells ∙ paste_is (cells live) c.live (drop 0 (cells args)) n ∙ (λ j. a j ++ (b j ++ Z))));
   same_state = changes_same w;
   same_live = record { rest = u.rest; len = u.len };
-  same_store = same store;
+  same_store = same_refl store;
   appends = λ P m m' d q r o. let y : m' ≡ with_result (unhandled x (cells args)) m = turned P (cells args) m m' e d in appends_unwritten (rests_lies r q) (ap (λ (z : M). z.store) y);
   table = refl;
 }

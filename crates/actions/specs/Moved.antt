@@ -1,6 +1,6 @@
 -- Frames that are put on top: a new one, or those of a continuation.
-use Rattle.std.specs.Prelude.{◌≡◌, refl, Bool, true, false, get_or, set, take, drop}
-use Rattle.std.proofs.Common.{sym, subst, ◌∙◌, arith, length-append, length-drop, length-set, drop_at, length-take-le}
+use Rattle.std.specs.Prelude.{◌≡◌, refl, get_or, set, drop}
+use Rattle.std.proofs.Common.{sym, subst, ◌∙◌, arith, length-append, length-drop, length-set, drop_at}
 use Rattle.std.proofs.Math.Path.{ap}
 use mathlib.Core.List.{List, [], ◌∷◌, ◌++◌, reverse, append-nil, append_assoc}
 use Prim.Native.Nat.{ℕ, suc, ◌+◌, ◌-◌, ◌<◌, ◌≤◌}
@@ -9,9 +9,10 @@ use Rattle.std.proofs.lemmas.List.{get_or_at}
 use Rattle.cells.specs.Cells.{null, room, cells}
 use Rattle.cells.specs.CellsLaws.{length_cells}
 use Rattle.cells.specs.declared.Cell.{Cell}
-use Rattle.machine.specs.Values.{cell, list_at}
-use Rattle.machine.specs.Machine.{Frame, lucia, host, effect_callback, Object, list, continuation, Result, M, frame_cost, frames_cost, cost, used, result_cost, here, object_at, parse, put_back}
-use Rattle.machine.proofs.Store.{used_append}
+use Rattle.machine.specs.Values.{cell}
+use Rattle.machine.specs.Machine.{Frame, Object, continuation, Result, M, frame_cost, frames_cost, used, result_cost, here, object_at, parse, put_back}
+use Rattle.machine.proofs.Refusals.{frames_few}
+use Rattle.machine.proofs.RequestRefusals.{put_back_length}
 use Rattle.memory.specs.Layout.{Written, written, flat, object_cells}
 use Rattle.memory.specs.View.{frames_size}
 use Rattle.memory.specs.Lists.{written_cost}
@@ -33,25 +34,7 @@ use Rattle.captures.specs.Entered.{Lies}
 use Rattle.actions.specs.Acted.{Roomy, Startable, StartsFrame, Resumable, Resumes, Beginnable, Begun, Begins}
 use Rattle.actions.specs.Tables.{begins_new, begins_more, begun_there, live_above, frames_inside, sizes_back}
 use Rattle.plan.specs.Kinds.{frame_number}
-
--- ---- Costs
-parsed_count : (b : Bool) (n : ℕ) (args : List Cell) (s : List Object) → (b ≡ true → n ≤ length args) → length (parse b n args s).args ≡ taken_count (record { count = n; variadic = b }) (length args)
-unfolding parse taken_count
-parsed_count true n args s le = length-append (take n args) (list_at (used s) ∷ []) ∙ omega (arith, length-take-le n args (le refl))
-parsed_count false n args s le = refl
-
-parsed_used : (b : Bool) (n : ℕ) (args : List Cell) (s : List Object) → used (parse b n args s).store ≡ used s + listed_cells (record { count = n; variadic = b }) (length args)
-unfolding parse listed_cells used cost
-parsed_used true n args s = used_append s (list (drop n args) ∷ []) ∙ omega (arith, length-drop n args)
-parsed_used false n args s = omega arith
-
--- a frame has a cell at least
-frames_few : (fs : List Frame) → length fs ≤ frames_cost fs
-unfolding frames_cost frame_cost
-frames_few [] = omega arith
-frames_few (lucia c p l s hs ∷ fs) = omega (arith, frames_few fs)
-frames_few (host n w s hs ∷ fs) = omega (arith, frames_few fs)
-frames_few (effect_callback e s hs ∷ fs) = omega (arith, frames_few fs)
+use Rattle.plan.proofs.ParsedLaws.{parsed_count, parsed_used}
 
 -- ---- What a machine that lies there has
 module _ {m : M} {c : Counts} {live store starts : List ℕ} (l : Lies m c live store starts) where
@@ -92,12 +75,12 @@ module _ {c : Counts} {f : Start} {p : Params} {n : ℕ} {live store starts : Li
       let args : List Cell = o.does.args in
       let s : List Object = o.machine.store in
       let A : List Cell = (parse p.variadic p.count args s).args in
-      let a : length A ≡ taken_count p n = parsed_count p.variadic p.count args s h.enough ∙ ap (taken_count p) o.does.count in
+      let a : length A ≡ taken_count p n = parsed_count p args s h.enough ∙ ap (taken_count p) o.does.count in
       let k : length o.after.frames ≡ suc (length o.machine.frames) = ap (λ (x : M). length x.frames) h.after in
       let g : frames_cost o.after.frames ≡ frame_cost h.frame + frames_cost o.machine.frames = ap (λ (x : M). frames_cost x.frames) h.after in
       let w : written_cost (written h.frame) ≡ 6 + f.locals + taken_count p n = ap (λ (x : Written). written_cost x) h.is ∙ omega (arith, length-replicate f.locals null, length-reverse A, a) in
       let u : used o.after.store ≡ used s + listed_cells p n =
-      ap (λ (x : M). used x.store) h.after ∙ parsed_used p.variadic p.count args s ∙ ap (λ (i : ℕ). used s + listed_cells p i) o.does.count in
+      ap (λ (x : M). used x.store) h.after ∙ parsed_used p args s ∙ ap (λ (i : ℕ). used s + listed_cells p i) o.does.count in
       record {
         table = omega (arith, o.behind.table, k, count_is l);
         cells_live = omega (arith, o.behind.cells_live, g, w, cost_written h.frame, cost_is l);
@@ -143,17 +126,12 @@ starts_frame {c} {f} {p} {args} {live} {a} {b} {live'} {store} {store'} starts l
   same_live = let w = pushes_same u in record { rest = t.rest ∙ w.rest ∙ s.rest; len = t.len ∙ w.len ∙ s.len };
   same_store = appends_same v.appends;
   appends = λ m m' r l room.
-      let k : used m'.store ≡ used m.store + listed_cells p (length args) = ap (λ (x : M). used x.store) r.after ∙ parsed_used p.variadic p.count args m.store in
+      let k : used m'.store ≡ used m.store + listed_cells p (length args) = ap (λ (x : M). used x.store) r.after ∙ parsed_used p args m.store in
       subst (λ (n : ℕ). Appends c.store n store store') (omega (arith, k, used_is l)) v.appends;
   table = length-set starts c.frames c.live;
 }
 
 -- ---- The frames of a continuation
-length_back : (v : Cell) (K : List Frame) → length (put_back v K) ≡ length K
-unfolding put_back
-length_back v [] = refl
-length_back v (f ∷ K) = refl
-
 -- its first cell has their number
 head_count : {s : List Object} (h : ℕ) {K : List Frame} {S : List Cell} → Stored s S → object_at s h ≡ here (continuation K) → (get_or S h null).number ≡ length K
 unfolding object_cells
@@ -192,7 +170,7 @@ module _ {h : ℕ} {v : Cell} {m m' : M} {c : Counts} {live store starts : List 
   count_after : length m'.frames ≡ length r.frames + c.frames
   count_after =
       ap (λ (x : M). length x.frames) r.after
-      ∙ length-append (put_back v r.frames) m.frames ∙ omega (arith, length_back v r.frames, count_is l)
+      ∙ length-append (put_back v r.frames) m.frames ∙ omega (arith, put_back_length v r.frames, count_is l)
 
   module _ (some : 0 < length r.frames) {n : ℕ} {live' : List ℕ} (b : objects.Resumed v c.live h live store n live') where
     back_live : Live (put_back v r.frames ++ m.frames) (cells live')
@@ -203,7 +181,7 @@ module _ {h : ℕ} {v : Cell} {m m' : M} {c : Counts} {live store starts : List 
         let K : List Frame = put_back v r.frames in
         let there : Live K (drop c.live (cells live')) = live_above K m.frames back_live (flat_is l) in
         let d : Begun c.frames c.live (length K) (drop c.live (cells live')) starts starts' =
-        rw (length_back v r.frames) (begun_there (sizes_back v r.frames (frames_stored h l.objects r.there) there) g) in
+        rw (put_back_length v r.frames) (begun_there (sizes_back v r.frames (frames_stored h l.objects r.there) there) g) in
         rw r.after (record {
           counts = refl;
           running = l.running;

@@ -1,5 +1,5 @@
 -- The table of starts: its entries for frames that are put on top, and for those that stay.
-use Rattle.std.specs.Prelude.{◌≡◌, refl, ℕ, zero, suc, ◌+◌, ◌-◌, ◌<◌, ◌≤◌, length, get_or, set, drop}
+use Rattle.std.specs.Prelude.{◌≡◌, refl, ℕ, suc, ◌+◌, ◌-◌, ◌<◌, ◌≤◌, length, get_or, set, drop}
 use Rattle.std.proofs.Common.{sym, subst, ◌∙◌, inl, inr, ⊎_elim, add-one, arith, length-set, length-append, drop-drop, get_or-set_same, get_or-set_other}
 use Rattle.std.proofs.Math.Path.{ap}
 use mathlib.Core.List.{List, [], ◌∷◌, ◌++◌, append_assoc}
@@ -13,25 +13,11 @@ use Rattle.memory.proofs.Lists.{flat_append}
 use Rattle.moves.specs.Runs.{end_of, opened}
 use Rattle.moves.specs.Frames.{Live}
 use Rattle.moves.specs.Objects.{end_opened, sizes}
-use Rattle.moves.specs.Starts.{lower, frames_lower}
+use Rattle.moves.specs.Starts.{lower, frames_lower, frames_last, frames_up}
 use Rattle.moves.specs.declared.Running.{Running}
 use Rattle.plan.specs.Rest.{Begins}
 use Rattle.actions.specs.Acted as acted
 use Rattle.actions.specs.Acted.{Begun}
-
--- ---- One frame more
-frames_last : (i : ℕ) (x : List Cell) → frames_size (suc i) x ≡ frames_size i x + frame_size (drop (frames_size i x) x)
-unfolding frames_size
-frames_last zero x = omega arith
-frames_last (suc i) x =
-    let y : List Cell = drop (frame_size x) x in
-    omega (arith, frames_last i y, ap (λ (l : List Cell). frame_size l) (drop-drop (frames_size i y) (frame_size x) x))
-
-frames_up : (i n : ℕ) (x : List Cell) → i ≤ n → frames_size i x ≤ frames_size n x
-unfolding frames_size
-frames_up zero n x h = omega arith
-frames_up (suc i) zero x h = absurd (omega arith)
-frames_up (suc i) (suc n) x h = omega (arith, frames_up i n (drop (frame_size x) x) (omega arith))
 
 -- ---- The loop: i starts are in the table, the last of those frames begins at `last`, the next at `place`, and that ends at `next`
 pub record Passed (first from at i : ℕ) (S : List Cell) (old : List ℕ) (last place : ℕ) (new : List ℕ) : Type 0 where
@@ -96,6 +82,9 @@ pub lower_onto : (A F : List Frame) (i : ℕ) → i ≤ length F → lower i (A 
 lower_onto A F i le =
     let n : length (A ++ F) - i ≡ length A + (length F - i) = omega (arith, length-append A F) in
     ap (λ (k : ℕ). drop k (A ++ F)) n ∙ drop-append-add A F (length F - i)
+
+pub begins_below : (f : Frame) (below : List Frame) (starts : List ℕ) → Begins (f ∷ below) starts → Begins below starts
+begins_below f below starts b i lt = b i (omega arith) ∙ ap (λ (fs : List Frame). length (flat fs)) (lower_onto (f ∷ []) below i (omega arith))
 
 pub lower_all : (F : List Frame) → lower (length F) F ≡ F
 lower_all F = let z : length F - length F ≡ 0 = omega arith in ap (λ (k : ℕ). drop k F) z

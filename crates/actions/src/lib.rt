@@ -36,7 +36,8 @@ pub fn start_frame(
     starts[top] = c.live as u32;
 }
 
-// The starts of the `count` frames of the store from `from` on go into the table behind the first ones, as they are once the frames lie at `at`: where the last of them begins in the store.
+// The starts of the `count` frames of the store from `from` on go into the table behind the first ones, as they are
+// once the frames lie at `at`: where the last of them begins in the store.
 // One walk is enough for both: each frame must be read to know where the next one begins.
 fn begin(
     store: &[u8],
@@ -81,7 +82,8 @@ pub fn carry(
     c: Counts,
 )
     requires { Carriable plan (cells args.now) c state.old live.old store.old starts.old }
-    ensures { CarriesOut plan (cells args.now) c state.old live.old store.old starts.old state.new live.new store.new starts.new }
+    ensures { CarriesOut plan (cells args.now) c state.old live.old store.old starts.old
+        state.new live.new store.new starts.new }
 {
     match plan {
         Plan::Starts(f, p) => start_frame(live, store, starts, c, f, p, args),

@@ -11,7 +11,7 @@ use Rattle.machine.specs.Opcodes.{Running, Action, throws, takes, next_action}
 use Rattle.machine.specs.Calls.{Sizes, does, stops, outcome, Pace, failing, pace_of}
 use Rattle.machine.proofs.FormLaws.{MachineFits}
 use Rattle.memory.specs.Layout.{written, flat}
-use Rattle.moves.specs.Runs.{Top, end_of, opened}
+use Rattle.moves.specs.Runs.{Top, Settles, end_of, opened}
 use Rattle.moves.specs.declared.Running as registers
 use Rattle.plan.specs.Rest.{Same, Appends, counts_of, Begins, Held, Block, Rests}
 use Rattle.plan.specs.Plans.{Carries}
@@ -152,6 +152,32 @@ pub record ActsBelow (plan : Plan) (args : List Cell) (c : Counts) (g : register
       → ActedOn (rooms_of live store) m m' r (cells state') (cells live') (cells store') starts'
   pub bounded : Bounded state live store starts state' live' store' starts'
   pub appends : Appends c.store (used_by c.store r) store store'
+
+-- ---- A plan for what is left of the running frame, if anything is
+abbrev pub Leavable : Option registers.Running → List ℕ → Type 0
+Leavable None live = Unit {0}
+Leavable (Some g) live = (g.base + 6 ≤ room live) × (g.place < 4294967296)
+
+abbrev pub settled_left : Option registers.Running → List ℕ → List ℕ → Type 0
+settled_left None live live' = live' ≡ live
+settled_left (Some g) live live' = Settles g live live'
+
+pub record SettlesLeft (left : Option registers.Running) (live live' : List ℕ) : Type 0 where
+  pub settles : settled_left left live live'
+
+abbrev pub actable : Plan → List Cell → Counts → registers.Running → Option registers.Running → List ℕ → List ℕ → List ℕ → List ℕ → Type 0
+actable plan args c g None = Belowable plan args c g
+actable plan args c g (Some left) = Overable plan args c g left
+
+pub record Actable (plan : Plan) (args : List Cell) (c : Counts) (g : registers.Running) (left : Option registers.Running) (state live store starts : List ℕ) : Type 0 where
+  pub able : actable plan args c g left state live store starts
+
+abbrev pub acts_on : Plan → List Cell → Counts → registers.Running → Option registers.Running → Result Counts Refusal → List ℕ → List ℕ → List ℕ → List ℕ → List ℕ → List ℕ → List ℕ → List ℕ → Type 0
+acts_on plan args c g None r = ActsBelow plan args c g r
+acts_on plan args c g (Some left) r = ActsOver plan args c g left r
+
+pub record ActsOn (plan : Plan) (args : List Cell) (c : Counts) (g : registers.Running) (left : Option registers.Running) (r : Result Counts Refusal) (state live store starts state' live' store' starts' : List ℕ) : Type 0 where
+  pub on : acts_on plan args c g left r state live store starts state' live' store' starts'
 
 -- ---- A step that closes its slice
 -- the step is accepted at a pace, and memory has what it leads to

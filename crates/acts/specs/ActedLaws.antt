@@ -1,65 +1,33 @@
 -- A plan that is judged, and carried out or not: memory has the machine that it leads to, or the one that was.
-use Rattle.std.specs.Prelude.{◌≡◌, refl, List, ◌∷◌, Bool, true, false, ℕ, zero, suc, ◌+◌, ◌/◌, ◌<◌, ◌≤◌, length, ltb, Result, Ok, Err}
+use Rattle.std.specs.Prelude.{◌≡◌, refl, List, ◌∷◌, ℕ, ◌+◌, ◌/◌, ◌<◌, ◌≤◌, length, Result, Ok, Err}
 use Rattle.std.proofs.Math.Path.{sym, subst}
-use Rattle.std.proofs.Common.{ap, ◌∙◌, arith, ltb-false}
+use Rattle.std.proofs.Common.{ap, ◌∙◌, arith}
 use Rattle.cells.specs.Cells.{room, cells}
 use Rattle.cells.specs.CellsLaws.{length_cells}
 use Rattle.cells.specs.declared.Cell.{Cell}
-use Rattle.image.specs.Records.{if?}
 use Rattle.machine.specs.Values.{Program}
 use Rattle.machine.specs.Machine.{Frame, running, M}
-use Rattle.machine.specs.Calls.{Sizes}
 use Rattle.memory.specs.Layout.{written, flat}
 use Rattle.moves.specs.Runs.{Top, Settles}
 use Rattle.moves.specs.Frames.{Live, stands_live}
 use Rattle.moves.specs.Objects.{Stored}
 use Rattle.moves.specs.declared.Running.{Running}
 use Rattle.plan.specs.Rest.{Same, Appends, counts_of, Begins, Held, Block, Rests}
+use Rattle.plan.proofs.RestLaws.{same_refl, same_join}
 use Rattle.plan.proofs.Appended.{appends_refl}
 use Rattle.plan.specs.Plans.{Carries}
 use Rattle.plan.specs.declared.Counts.{Counts}
 use Rattle.plan.specs.declared.Plan.{Plan}
 use Rattle.counts.specs.Counted.{refusal_by, Ready, Countable}
+use Rattle.counts.specs.Judged.{granted}
 use Rattle.actions.specs.Acted.{Roomy, Carriable, CarriesOut}
 use Rattle.acts.specs.Acted.{rooms_of, JudgedAs, Small, Judgeable, Judges, Changed, Gone, Bounded, Overable, ActsOver, Belowable, ActsBelow}
 use Rattle.acts.specs.Left.{begins_other, top_live, top_room, live_rests, held_rests, held_again, held_room, block_left}
 use Rattle.refusals.specs.declared.Refusal.{Refusal}
-use Rattle.refusals.specs.declared.Refusal.TheVariants.{ImageSize, ImageStructure, ImageNumber, ImageCodes, BadValue, BadLoan, NotInForm, NotLoaded, OutOfTurn, FewValues, ManyFrames, LiveFull, StoreFull, ManyHandlers}
-use Rattle.refusals.specs.Refusals.{number, number_of}
+use Rattle.refusals.specs.Refusals.{number_of}
+use Rattle.refusals.proofs.NumberLaws.{number_above}
 
 -- ---- A plan is judged
-pub some : (n : ℕ) → (n ≡ 0 → ⊥) → 0 < n
-some zero h = absurd (h refl)
-some (suc n) h = omega arith
-
--- 0 is the number of no refusal
-pub numbered : (r : Refusal) → 0 < number r
-numbered ImageSize = omega arith
-numbered ImageStructure = omega arith
-numbered ImageNumber = omega arith
-numbered ImageCodes = omega arith
-numbered BadValue = omega arith
-numbered BadLoan = omega arith
-numbered NotInForm = omega arith
-numbered NotLoaded = omega arith
-numbered OutOfTurn = omega arith
-numbered FewValues = omega arith
-numbered ManyFrames = omega arith
-numbered LiveFull = omega arith
-numbered StoreFull = omega arith
-numbered ManyHandlers = omega arith
-
--- there is room where nothing is refused
-no_refusal : (z : Sizes) (c : Counts) → refusal_by z c ≡ 0 → (c.frames ≤ 256) × (c.live ≤ z.live) × (c.store ≤ z.store)
-unfolding refusal_by
-no_refusal z c = by _ _ _ refl refl refl
-  where
-    by : (x y w : Bool) → ltb 256 c.frames ≡ x → ltb z.live c.live ≡ y → ltb z.store c.store ≡ w → ◌≡◌ {A = ℕ} (if? x 13 (if? y 14 (if? w 15 0))) 0 → (c.frames ≤ 256) × (c.live ≤ z.live) × (c.store ≤ z.store)
-    by true y w a b d e = absurd (omega (arith, e))
-    by false true w a b d e = absurd (omega (arith, e))
-    by false false true a b d e = absurd (omega (arith, e))
-    by false false false a b d e = (ltb-false _ _ a, ltb-false _ _ b, ltb-false _ _ d)
-
 judged_is : (live store : List ℕ) {after after' : Counts} {a b code : ℕ} → a ≡ room live → b ≡ room store → code ≡ refusal_by (record { live = a; store = b }) after → after ≡ after' → code ≡ refusal_by (rooms_of live store) after'
 judged_is live store x y e q = e ∙ (λ j. refusal_by (record { live = x j; store = y j }) (q j))
 
@@ -82,26 +50,20 @@ module _ {plan : Plan} {n : ℕ} {c : Counts} {live store starts : List ℕ} whe
   module _ {after : Counts} (k : (P : Program) (m m' : M) (args : List Cell) → length args ≡ n → Carries P plan args m m' → Held P m c (cells live) (cells store) starts → Ready plan m (cells live) → after ≡ counts_of m')
       {a b : ℕ} {w : Result (Unit {0}) Refusal} (x : a ≡ room live) (y : b ≡ room store) (e : number_of w ≡ refusal_by (record { live = a; store = b }) after) where
     pub judge_refused : {o : Refusal} → w ≡ Err o → Judges plan n c live store starts (Err o)
-    judge_refused {o} is = record { judged = λ P m m' args g d h r. (sym (ap number_of is) ∙ judged_is live store x y e (k P m m' args g d h r), numbered o) }
+    judge_refused {o} is = record { judged = λ P m m' args g d h r. (sym (ap number_of is) ∙ judged_is live store x y e (k P m m' args g d h r), number_above o) }
 
     pub judge_done : {o : Unit {0}} → w ≡ Ok o → Judges plan n c live store starts (Ok after)
     judge_done is = record { judged = λ P m m' args g d h r. (sym (judged_is live store x y e (k P m m' args g d h r)) ∙ ap number_of is, k P m m' args g d h r) }
 
 -- ---- What stays as it was
-same_refl : (a : List ℕ) → Same a a
-same_refl a = record { rest = refl; len = refl }
-
 settles_same : {g : Running} {a b : List ℕ} → Settles g a b → Same a b
 settles_same s = record { rest = s.rest; len = s.len }
-
-same_two : {a b c : List ℕ} → Same a b → Same b c → Same a c
-same_two s t = record { rest = t.rest ∙ s.rest; len = t.len ∙ s.len }
 
 pub bounded_settled : {g : Running} {live live₁ : List ℕ} (state store starts : List ℕ) → Settles g live live₁ → Bounded state live store starts state live₁ store starts
 bounded_settled state store starts s = record { same_state = same_refl state; same_live = settles_same s; same_store = same_refl store; table = refl }
 
 bounded_carried : {plan : Plan} {args : List Cell} {c : Counts} {state live live₁ store starts state' live' store' starts' : List ℕ} → Same live live₁ → CarriesOut plan args c state live₁ store starts state' live' store' starts' → Bounded state live store starts state' live' store' starts'
-bounded_carried s x = record { same_state = x.same_state; same_live = same_two s x.same_live; same_store = x.same_store; table = x.table }
+bounded_carried s x = record { same_state = x.same_state; same_live = same_join s x.same_live; same_store = x.same_store; table = x.table }
 
 -- the store holds what the machine has then, and nothing behind that changes
 carried_appends : {plan : Plan} {args : List Cell} {c after : Counts} {state live store starts state' live' store' starts' : List ℕ} (k : Carriable plan args c state live store starts) → after ≡ counts_of k.after → CarriesOut plan args c state live store starts state' live' store' starts'
@@ -124,7 +86,7 @@ roomy_left {live = live} {live₁} h l s e =
 pub roomy_after : {c : Counts} {n : ℕ} {live live₁ store starts : List ℕ} (k : Counts) → refusal_by (rooms_of live store) k ≡ 0 → Small c n live store starts → length live₁ ≡ length live → Roomy k live₁ store starts
 roomy_after {live = live} {live₁} {store} k e s q =
     let r : room live₁ ≡ room live = ap (λ (i : ℕ). i / 16) q in
-    let f = no_refusal (rooms_of live store) k e in
+    let f = granted (rooms_of live store) k e in
     record { table = omega (arith, f.0, s.whole); cells_live = omega (arith, f.1, r); cells_store = f.2; small = (omega (arith, s.few.2, r), s.few.1) }
 
 -- ---- A plan over the running frame

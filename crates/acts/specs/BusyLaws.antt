@@ -1,5 +1,5 @@
 -- A machine that runs a Lucia frame in registers: what its next opcode is, and what memory holds of it once the frame is changed or gone.
-use Rattle.std.specs.Prelude.{◌≡◌, refl, List, [], ◌∷◌, true, ℕ, ◌+◌, ◌-◌, ◌<◌, ◌≤◌, length, get_or, drop, eqb, Result, Ok, Err}
+use Rattle.std.specs.Prelude.{◌≡◌, refl, List, ◌∷◌, true, ℕ, ◌+◌, ◌-◌, ◌<◌, ◌≤◌, length, get_or, drop, eqb, Result, Ok, Err}
 use Rattle.std.proofs.Common.{sym, ap, ◌∙◌, arith, ne_eqb}
 use Rattle.std.proofs.Math.Path.{subst}
 use Rattle.cells.specs.Cells.{null, room, cells}
@@ -7,7 +7,7 @@ use Rattle.cells.specs.CellsLaws.{length_cells}
 use Rattle.cells.specs.declared.Cell.{Cell}
 use Rattle.image.specs.Records.{if?}
 use Rattle.machine.specs.Values.{Program}
-use Rattle.machine.specs.Machine.{Handler, Frame, lucia, Object, M, with_frames, handlers_of}
+use Rattle.machine.specs.Machine.{Handler, Frame, lucia, M, with_frames, handlers_of}
 use Rattle.machine.specs.Opcodes.{Action, doing, Taken, takes, opcode_action, next_action}
 use Rattle.machine.specs.Calls.{Sizes, top_handlers, handlers_left, does, stops, outcome, Pace, failing, pace_of, is_value}
 use Rattle.machine.specs.Demand.{All}
@@ -15,6 +15,7 @@ use Rattle.machine.specs.Form.{FrameFits}
 use Rattle.machine.proofs.FormRules.{carries}
 use Rattle.machine.specs.ValueLaws.{Value}
 use Rattle.machine.proofs.ValueLaws.{all_get, null_value}
+use Rattle.machine.proofs.FormLaws.{top_few}
 use Rattle.memory.specs.Layout.{written, flat}
 use Rattle.moves.specs.Runs.{Top, Runs, lucia_written, end_of, Settles, pop_top, place_top}
 use Rattle.moves.specs.Frames.{Live}
@@ -67,12 +68,6 @@ ready_under m L (Fails y) l = tt
 ready_under m L (Receives v) l = l
 ready_under m L (Returns v) l = tt
 ready_under m L Stays l = tt
-
--- ---- Handlers
-pub top_handlers_lem : (P : Program) (s : List Object) (F : List Frame) → All (FrameFits P s) F → top_handlers F ≤ 16
-unfolding top_handlers
-top_handlers_lem P s [] h = omega arith
-top_handlers_lem P s (f ∷ F) h = h.0.formed.handlers
 
 -- ---- The running frame
 module _ {P : Program} {z : Sizes} {m : M} {g : registers.Running} {u frames : ℕ} {B L S : List Cell} {starts : List ℕ} (b : Busy P z m g u frames B L S starts) where
@@ -132,7 +127,7 @@ module _ {P : Program} {z : Sizes} {m : M} {g : registers.Running} {u frames : �
   busy_handlers h p l st = fitting.0.formed.handlers
 
   pub busy_handlers_under : top_handlers b.frame.below ≤ 16
-  busy_handlers_under = top_handlers_lem P m.store b.frame.below fitting.1
+  busy_handlers_under = top_few P m.store b.frame.below fitting.1
 
 module _ {P : Program} {z : Sizes} {m : M} {g : registers.Running} {u frames : ℕ} {B : List Cell} (live store : List ℕ) {starts : List ℕ} (b : Busy P z m g u frames B (cells live) (cells store) starts) where
   pub busy_sizes : z ≡ rooms_of live store

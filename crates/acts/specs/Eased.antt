@@ -1,9 +1,10 @@
 -- A resume that surely has room is carried out unjudged, so that its frames are walked over once; what the machine has then is read off the top frame.
-use Rattle.std.specs.Prelude.{◌≡◌, Bool, true, false, ℕ, ◌+◌, ◌-◌, ◌/◌, ◌<◌, ◌≤◌, drop, ltb, Option, Some, Ok}
+use Rattle.std.specs.Prelude.{◌≡◌, Bool, true, false, ℕ, ◌+◌, ◌-◌, ◌/◌, ◌<◌, ◌≤◌, ltb, Option, Some, Ok}
 use Rattle.std.proofs.Math.Path.{refl, sym, ap, subst}
 use Rattle.std.proofs.Common.{◌∙◌, arith, ltb-true}
 use mathlib.Core.List.{List, [], ◌∷◌, ◌++◌}
 use Rattle.std.proofs.Math.ListN.{length, get_or, length-append}
+use Rattle.std.proofs.Math.Nat.{pos_of_ne-zero}
 use Rattle.std.proofs.Math.Seq.{get_or_at}
 use Rattle.cells.specs.Cells.{null, room, cells}
 use Rattle.cells.specs.CellsLaws.{length_cells}
@@ -17,7 +18,6 @@ use Rattle.memory.proofs.Lists.{length_flat, cost_append}
 use Rattle.moves.specs.Runs.{Top, Settles, end_of, opened, opened_top, top_length}
 use Rattle.moves.specs.Frames.{Live, live_stands}
 use Rattle.moves.specs.Objects.{There, object_there}
-use Rattle.moves.specs.Starts.{lower}
 use Rattle.moves.specs.declared.Running.{Running}
 use Rattle.plan.specs.Rest.{counts_of, Begins, Held, Rests}
 use Rattle.plan.specs.Plans.{Resumed, Carries}
@@ -27,9 +27,10 @@ use Rattle.plan.specs.declared.Plan.TheVariants.{Resumes}
 use Rattle.counts.specs.Counted.{refusal_by, resumed_counts, Resumable}
 use Rattle.counts.specs.CountedLaws.{resumed_is, resumed_reads}
 use Rattle.actions.specs.Acted.{Carriable, CarriesOut}
+use Rattle.actions.specs.Tables.{lower_all}
 use Rattle.acts.specs.Acted.{rooms_of, Judgeable, Eases, Standing, standing_counts, Overable, ActsOver, Belowable, ActsBelow}
 use Rattle.acts.specs.Left.{lower_under, top_cost}
-use Rattle.acts.specs.ActedLaws.{some, over_judged, over_carries, over_done, below_judged, below_carries, below_done}
+use Rattle.acts.specs.ActedLaws.{over_judged, over_carries, over_done, below_judged, below_carries, below_done}
 
 -- ---- There is room
 room_there : (z : Sizes) (c : Counts) → c.frames ≤ 256 → c.live ≤ z.live → c.store ≤ z.store → refusal_by z c ≡ 0
@@ -89,7 +90,7 @@ module _ {plan : Plan} {n : ℕ} {c : Counts} {live store starts : List ℕ} whe
     pub eases : {count size r : ℕ} → (count ≡ 0 → ⊥) → count ≡ (get_or (cells store) h null).number → size ≡ (get_or (cells store) h null).payload → r ≡ room live → c.frames + count ≤ 256 → c.live + size + 1 ≤ r
         → Eases plan n c live store starts (Some count)
     eases {count} {size} {r} ne a b d f l = (
-      some count ne,
+      pos_of_ne-zero ne,
       record {
         after = resumed_counts c h (cells store);
         judges = record {
@@ -108,9 +109,6 @@ module _ {plan : Plan} {n : ℕ} {c : Counts} {live store starts : List ℕ} whe
     )
 
 -- ---- What stands once the frames are put back
-lower_all : (F : List Frame) → lower (length F) F ≡ F
-lower_all F = let z : length F - length F ≡ 0 = omega arith in ap (λ (n : ℕ). drop n F) z
-
 -- the top frame can be read, and it ends where the frames do
 top_stands : {L : List Cell} {frames : ℕ} (starts : List ℕ) (F : List Frame) → length F ≡ frames → 0 < frames → frames ≤ length starts → length L < 4294967296 → Live F L → Begins F starts
     → Standing L starts frames × (end_of (opened L (get_or starts (frames - 1) 0)) ≡ frames_cost F)

@@ -10,19 +10,17 @@ use Rattle.machine.specs.Form.{StoreFits}
 use Rattle.memory.specs.Layout.{Written, written, flat, result_shown}
 use Rattle.memory.proofs.Lists.{cost_written, length_flat}
 use Rattle.moves.specs.Runs.{Top, loose, end_of, top_length}
-use Rattle.moves.specs.Frames.{Live, live_drop}
+use Rattle.moves.specs.Frames.{Live, live_below}
 use Rattle.moves.specs.Objects.{Stored}
 use Rattle.moves.specs.Starts.{lower}
 use Rattle.moves.specs.declared.Running.{Running}
 use Rattle.plan.specs.Rest.{counts_of, Begins, Held, Block, Rests}
 use Rattle.plan.specs.declared.Counts.{Counts}
+use Rattle.actions.specs.Tables.{begins_below}
 
 -- ---- Where frames begin: the top frame does not count
 pub lower_under : (f : Frame) (below : List Frame) (i : ℕ) → i < length (f ∷ below) → lower i (f ∷ below) ≡ lower i below
 lower_under f below i lt = let e : length (f ∷ below) - i ≡ suc (length below - i) = omega arith in ap (λ (k : ℕ). drop k (f ∷ below)) e
-
-pub begins_under : (f : Frame) (below : List Frame) (starts : List ℕ) → Begins (f ∷ below) starts → Begins below starts
-begins_under f below starts b = λ i lt. b i (omega arith) ∙ ap (λ (F : List Frame). length (flat F)) (lower_under f below i (omega arith))
 
 pub begins_other : (f : Frame) (below : List Frame) (h : Frame) (starts : List ℕ) → Begins (f ∷ below) starts → Begins (h ∷ below) starts
 begins_other f below h starts b = λ i lt. b i lt ∙ ap (λ (F : List Frame). length (flat F)) (lower_under f below i lt ∙ sym (lower_under h below i lt))
@@ -37,10 +35,6 @@ top_cost f below t = omega (arith, cost_written f, length_flat below, t.base, t.
 
 pub top_room : {w : Written} {pre : List Cell} {g : Running} (live : List ℕ) → Top w pre g (cells live) → (end_of g ≤ room live) × (g.base + 6 ≤ room live)
 top_room live t = (omega (arith, top_length t, length_cells live), omega (arith, top_length t, length_cells live))
-
-live_under : {L : List Cell} (F : List Frame) → Live F L → Live (drop 1 F) L
-live_under [] o = o
-live_under (f ∷ F) o = live_drop o
 
 no_result : {r : Result} → r ≡ running → result_cost r ≡ 0
 unfolding result_cost
@@ -72,7 +66,7 @@ module _ (P : Program) (m : M) (f : Frame) (below : List Frame) {S : List Cell} 
       record {
         running = run;
         counts = λ j. record { frames = a j; live = c j; store = s j };
-        under = record { below = live_under below (top_live t); begins = begins_under f below starts begin };
+        under = record { below = live_below below (top_live t); begins = begins_below f below starts begin };
         store = st;
         objects = ob;
       }
@@ -88,7 +82,7 @@ module _ {P : Program} {m : M} {c : Counts} {L L' S : List Cell} {starts : List 
   held_rests x = live_rests starts h.running l h.counts h.under.begins h.store x
 
   pub held_again : Held P m c L' S starts
-  held_again = record { running = h.running; counts = h.counts; under = record { below = live_under m.frames l; begins = h.under.begins }; store = h.store; objects = h.objects }
+  held_again = record { running = h.running; counts = h.counts; under = record { below = live_below m.frames l; begins = h.under.begins }; store = h.store; objects = h.objects }
 
   pub held_room : c.live ≤ length L'
   held_room =

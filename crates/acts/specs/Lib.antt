@@ -5,6 +5,7 @@ pub mod Apart
 pub mod ActedLaws
 pub mod Started
 pub mod Eased
+pub mod Alike
 pub mod BusyLaws
 pub mod ThrowLaws
 pub mod Operands

@@ -5,7 +5,7 @@ ghost use Rattle.std.specs.Prelude.{◌≡◌, [], ◌≤◌, ◌<◌};
 ghost use Rattle.cells.specs.Cells.{cells};
 ghost use Rattle.scan.specs.Tables.{program_of};
 ghost use Rattle.plan.specs.declared.Plan.TheVariants.{Starts, Receives};
-ghost use Rattle.acts.specs.Acted.{Judgeable, Judges, Eases, Standing, standing_counts, Overable, ActsOver, Belowable, ActsBelow, left_of, Failable, Fails};
+ghost use Rattle.acts.specs.Acted.{Judgeable, Judges, Eases, Standing, standing_counts, Overable, ActsOver, Belowable, ActsBelow, Leavable, SettlesLeft, Actable, ActsOn, left_of, Failable, Fails};
 
 use cells::Cell;
 use moves::Running;
@@ -71,7 +71,52 @@ fn standing(live: &[u8], starts: &[u32], frames: usize, store: usize) -> Counts
     }
 }
 
-// A plan over the running frame g, of which `left` is left. Where it is refused, the frame is written as it was.
+// What is left of the running frame, if anything is, is written.
+fn settle_left(live: &mut [u8], left: Option<Running>)
+    requires { Leavable left live.old }
+    ensures { SettlesLeft left live.old live.new }
+{
+    if let Some(g) = left {
+        moves::settle(live, g);
+    }
+}
+
+// A plan for the machine whose running frame g becomes `left`, or is gone. Where it is refused, the frame is written as
+// it was.
+fn act(
+    plan: Plan,
+    args: &[u8],
+    state: &mut [u8],
+    live: &mut [u8],
+    store: &mut [u8],
+    starts: &mut [u32],
+    c: Counts,
+    g: Running,
+    left: Option<Running>,
+) -> Result<Counts, Refusal>
+    requires { Actable plan (cells args.now) c g left state.old live.old store.old starts.old }
+    ensures { ActsOn plan (cells args.now) c g left result state.old live.old store.old starts.old state.new live.new store.new starts.new }
+{
+    let n = cells::room(args);
+    if let Some(more) = easy(plan, n, live, store, starts, c) {
+        settle_left(live, left);
+        actions::carry(plan, args, state, live, store, starts, c);
+        return Ok(standing(live, starts, c.frames + more, c.store));
+    }
+    match judge(plan, n, live, store, starts, c) {
+        Err(refusal) => {
+            moves::settle(live, g);
+            Err(refusal)
+        }
+        Ok(after) => {
+            settle_left(live, left);
+            actions::carry(plan, args, state, live, store, starts, c);
+            Ok(after)
+        }
+    }
+}
+
+// A plan over the running frame g, of which `left` is left.
 pub fn over(
     plan: Plan,
     args: &[u8],
@@ -86,23 +131,7 @@ pub fn over(
     requires { Overable plan (cells args.now) c g left state.old live.old store.old starts.old }
     ensures { ActsOver plan (cells args.now) c g left result state.old live.old store.old starts.old state.new live.new store.new starts.new }
 {
-    let n = cells::room(args);
-    if let Some(more) = easy(plan, n, live, store, starts, c) {
-        moves::settle(live, left);
-        actions::carry(plan, args, state, live, store, starts, c);
-        return Ok(standing(live, starts, c.frames + more, c.store));
-    }
-    match judge(plan, n, live, store, starts, c) {
-        Err(refusal) => {
-            moves::settle(live, g);
-            Err(refusal)
-        }
-        Ok(after) => {
-            moves::settle(live, left);
-            actions::carry(plan, args, state, live, store, starts, c);
-            Ok(after)
-        }
-    }
+    act(plan, args, state, live, store, starts, c, g, Some(left))
 }
 
 // A plan once the running frame g is gone.
@@ -119,21 +148,7 @@ pub fn below(
     requires { Belowable plan (cells args.now) c g state.old live.old store.old starts.old }
     ensures { ActsBelow plan (cells args.now) c g result state.old live.old store.old starts.old state.new live.new store.new starts.new }
 {
-    let n = cells::room(args);
-    if let Some(more) = easy(plan, n, live, store, starts, c) {
-        actions::carry(plan, args, state, live, store, starts, c);
-        return Ok(standing(live, starts, c.frames + more, c.store));
-    }
-    match judge(plan, n, live, store, starts, c) {
-        Err(refusal) => {
-            moves::settle(live, g);
-            Err(refusal)
-        }
-        Ok(after) => {
-            actions::carry(plan, args, state, live, store, starts, c);
-            Ok(after)
-        }
-    }
+    act(plan, args, state, live, store, starts, c, g, None)
 }
 
 // A new frame over the running frame g, of which `left` is left: what `over` does with the plan `Starts`. Calls are frequent, so that theirs goes through no plan.
@@ -191,9 +206,8 @@ pub fn left_of(g: Running, n: usize) -> Running
     ensures { result ≡ left_of g n }
 {
     Running {
-        stack: g.stack - n,
         place: g.place + 1,
-        ..g
+        ..g.dropped(n)
     }
 }
 

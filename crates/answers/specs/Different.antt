@@ -1,12 +1,14 @@
 -- The different effects of a list, one by one: what is kept, and what that leaves of the rest.
 use Rattle.std.specs.Prelude.{◌≡◌, Bool, get_or, set, Option, Some, None, IfSome, IfNone}
 use Rattle.std.proofs.Math.Path.{refl, sym, ap}
-use Rattle.std.proofs.Common.{◌∙◌, true≢false, add-one, length-append, drop-cons, get_or-take, length-take-le, take-suc-set}
+use Rattle.std.proofs.Common.{subst, ◌∙◌, true≢false, add-one, length-append, drop-cons, get_or-take, length-take-le, take-suc-set}
 use mathlib.Core.List.{List, [], ◌∷◌, ◌++◌, append_assoc, append-nil}
 use Rattle.std.proofs.Math.Bool.{true, false}
 use Rattle.std.proofs.lemmas.Bool.{false≢true}
+use Rattle.std.specs.Bool.{MatchBool}
+use Rattle.std.specs.List.{range_with_len, AllWithin, HoldsAt}
+use Rattle.std.proofs.lemmas.List.FromFn.{length-range_with_len, get_or-range_with_len}
 use Prim.Native.Nat.{ℕ, zero, suc, ◌+◌, ◌<◌, ◌≤◌}
-use Rattle.std.proofs.Math.Decide.{dec_lt}
 use native.Mathlib.Omega.{arith}
 use Rattle.std.proofs.Math.ListN.{length, take, drop, drop_of_length-le}
 use Rattle.cells.specs.Cells.{null, room, cells, Sound, Writes}
@@ -18,32 +20,22 @@ use Rattle.machine.specs.Calls.{without, distinct}
 use Rattle.answers.specs.Answered.{Among, Distinct}
 
 -- ---- Is an effect among those kept?
--- none of the first j is equal to e
-pub record Missed (P : Program) (kept : List Cell) (n : ℕ) (e : Cell) (j : ℕ) : Type 0 where
-  pub most : j ≤ n
-  pub misses : (i : ℕ) → i < j → equal_effects P (get_or kept i null) e ≡ false
+module _ (P : Program) (kept : List Cell) (n : ℕ) (e : Cell) where
+  -- the j-th is equal to e, or it is not
+  abbrev pub Equal : Bool → ℕ → Type 0
+  Equal b j = equal_effects P (get_or kept j null) e ≡ b
 
-pub missed_none : (P : Program) (kept : List Cell) (n : ℕ) (e : Cell) → Missed P kept n e 0
-missed_none P kept n e = record { most = omega arith; misses = λ i lt. absurd (omega arith) }
-
-module _ {P : Program} {kept : List Cell} {n : ℕ} {e : Cell} {j : ℕ} (m : Missed P kept n e j) where
-  -- the next is c
-  module _ (lt : j < n) {c : Cell} {t : Bool} (is : (c ≡ get_or kept j null) × Sound c) (q : t ≡ equal_effects P c e) where
-    shows : equal_effects P (get_or kept j null) e ≡ t
-    shows = sym (q ∙ ap (λ (x : Cell). equal_effects P x e) is.0)
-
-    pub missed_more : t ≡ false → Missed P kept n e (j + 1)
-    missed_more f = record { most = omega arith; misses = λ i h. by i h (dec_lt i j) }
-      where
-        by : (i : ℕ) → i < j + 1 → Dec (i < j) → equal_effects P (get_or kept i null) e ≡ false
-        by i h (yes k) = m.misses i k
-        by i h (no k) = let s : i ≡ j = omega arith in rw s (shows ∙ f)
-
-    pub among_here : t ≡ true → Among P kept n e true
-    among_here f = record { there = λ r. (j, lt, shows ∙ f); absent = λ r. absurd (true≢false r) }
-
-  pub among_none : n ≤ j → Among P kept n e false
-  among_none le = record { there = λ r. absurd (false≢true r); absent = λ r i lt. m.misses i (omega arith) }
+  -- what `any` over their places answers
+  pub among_any : (r : Bool) → MatchBool r ((k : ℕ) × (k < length (range_with_len 0 n)) × HoldsAt (Equal true) (range_with_len 0 n) k) (AllWithin (Equal false) (range_with_len 0 n) 0 (length (range_with_len 0 n)))
+      → Among P kept n e r
+  among_any true m =
+      let lt : m.0 < n = rw length-range_with_len at m.1 in
+      let h : Equal true m.0 = subst (Equal true) (get_or-range_with_len 0 n m.0 0 lt ∙ omega arith) (m.2 0) in
+      record { there = λ r. (m.0, lt, h); absent = λ r. absurd (true≢false r) }
+  among_any false m = record {
+    there = λ r. absurd (false≢true r);
+    absent = λ r j lt. subst (Equal false) (get_or-range_with_len 0 n j 0 lt ∙ omega arith) (m j 0 (omega arith) (rw length-range_with_len lt));
+  }
 
 -- ---- What is left of a list without the effects kept
 module _ (P : Program) where

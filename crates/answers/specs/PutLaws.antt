@@ -1,6 +1,8 @@
 -- The different handlers of an answered call go into its frame: one law for each need, and one for each return.
-use Rattle.std.specs.Prelude.{◌≡◌, refl, List, ◌∷◌, ℕ, ◌+◌, ◌<◌, ◌≤◌, length, take, Option, Some, None}
-use Rattle.std.proofs.Common.{ap, subst, ◌∙◌, arith, length-take}
+use Rattle.std.specs.Prelude.{◌≡◌, refl, List, ◌∷◌, ℕ, ◌+◌, ◌<◌, ◌≤◌, length, take, Option, Some, None, Result, Ok, Err}
+use Rattle.std.proofs.Common.{sym, ap, subst, ◌∙◌, true≢false, arith, length-take}
+use Rattle.std.specs.Option.{ok_or}
+use Rattle.std.specs.Result.{is_ok}
 use Rattle.cells.specs.Cells.{room, cells}
 use Rattle.cells.specs.CellsLaws.{length_cells}
 use Rattle.cells.specs.declared.Cell.{Cell}
@@ -13,11 +15,14 @@ use Rattle.moves.specs.Frames.{live_stands}
 use Rattle.moves.specs.declared.Running.{Running}
 use Rattle.plan.specs.Rest.{Same}
 use Rattle.answers.specs.Answered.{Distinct, HostFrame, Handleable, Rehandled, Puttable, PutsDistinct}
+use Rattle.refusals.specs.declared.Refusal.{Refusal}
 use Rattle.refusals.specs.declared.Refusal.TheVariants.{ManyHandlers}
 use Rattle.answers.specs.LayLaws.{begins_other, live_fits_lem}
 
-pub puts_many : {P : Program} {es kept : List Cell} {r : Option ℕ} (work : List ℕ) → Distinct P es r kept → r ≡ None → (ManyHandlers ≡ ManyHandlers) × (16 < length (distinct P (length es) es)) × Same work work
-puts_many work d e = let many = d.many in (refl, rw e at many, record { rest = refl; len = refl })
+pub puts_none : {P : Program} {es kept : List Cell} (r : Option ℕ) {f : Refusal} (work : List ℕ) → Distinct P es r kept → ok_or r ManyHandlers ≡ Err f
+    → (f ≡ ManyHandlers) × (16 < length (distinct P (length es) es)) × Same work work
+puts_none None {f} work d e = (ap (λ (x : Result ℕ Refusal). elim x [ Ok n ↦ f | Err y ↦ y ]) (sym e), d.many, record { rest = refl; len = refl })
+puts_none (Some n) work d e = absurd (true≢false (ap is_ok e))
 
 -- where a frame ends that is opened
 ends_at : {base n w : ℕ} {st hs : List Cell} {below : List Frame} {L : List Cell} → HostFrame base n w st hs below L → end_of (opened L base) ≡ frames_cost (host n w st hs ∷ below)

@@ -11,17 +11,11 @@ use cells::Cell;
 use refusals::Refusal;
 
 // Is an effect equal to one of the first n that are kept?
-#[tactic(auto, using(crate::specs::Different::missed_none, crate::specs::Different::missed_more, crate::specs::Different::among_here, crate::specs::Different::among_none))]
 fn among(program: &lookups::Program, kept: &[u8], n: usize, e: Cell) -> bool
     requires { n ≤ room kept.now }
     ensures { Among (program_of program.now) (cells kept.now) n e result }
 {
-    for j in 0..n {
-        if effects::equal_effects(program, cells::get(kept, j), e) {
-            return true;
-        }
-    }
-    false
+    (0..n).any(|j| effects::equal_effects(program, cells::get(kept, j), e))
 }
 
 // An effect goes behind the first n that are kept, unless one of them is equal to it: how many are kept then, or `None`
@@ -101,9 +95,7 @@ pub fn put_handlers(
     ensures { PutsHandlers (program_of program.now) base (cells handlers.now) result work.old work.new }
 {
     let mut kept = [0u8; 256];
-    let Some(n) = distinct(program, handlers, &mut kept) else {
-        return Err(Refusal::ManyHandlers);
-    };
+    let n = distinct(program, handlers, &mut kept).ok_or(Refusal::ManyHandlers)?;
     set_handlers(work, base, &kept, n);
     Ok(moves::end(moves::open(work, base)))
 }

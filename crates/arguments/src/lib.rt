@@ -7,7 +7,7 @@ ghost use Rattle.moves.specs.Runs.{end_of};
 ghost use Rattle.plan.specs.Plans.{taken_count, listed_cells, Enough};
 ghost use Rattle.plan.specs.Parsed.{Lists, Pushes, PushesFrom};
 
-use cells::Cell;
+use cells::{Cell, Tag};
 use moves::Running;
 use plan::Params;
 
@@ -18,7 +18,15 @@ pub fn list_rest(store: &mut [u8], at: usize, args: &[u8], p: Params)
 {
     if p.variadic {
         let count = p.count as usize;
-        objects::new_object(store, at, 129, 0, args, count, cells::room(args) - count);
+        objects::new_object(
+            store,
+            at,
+            Tag::ObjectList as u32,
+            0,
+            args,
+            count,
+            cells::room(args) - count,
+        );
     }
 }
 
@@ -30,15 +38,7 @@ pub fn push_args(live: &mut [u8], g: Running, args: &[u8], p: Params, list: usiz
     if p.variadic {
         let count = p.count as usize;
         let h = push_from(live, g, args, count);
-        return moves::push(
-            live,
-            h,
-            Cell {
-                tag: 6,
-                number: list as u32,
-                payload: 0,
-            },
-        );
+        return moves::push(live, h, Cell::new(Tag::List, list as u32, 0));
     }
     push_from(live, g, args, cells::room(args))
 }

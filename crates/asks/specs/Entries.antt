@@ -1,5 +1,5 @@
 -- What the entry of a call comes to, by what it finds.
-use Rattle.std.specs.Prelude.{List, Bool, true, ℕ, get_or, eqb, Result, Ok, Err}
+use Rattle.std.specs.Prelude.{List, Bool, true, ℕ, get_or, eqb, Option, Some, None, Result, Ok, Err}
 use Rattle.cells.specs.Cells.{null, cells}
 use Rattle.cells.specs.declared.Cell.{Cell}
 use Rattle.image.specs.Records.{if?, Answer, refused, accepted}
@@ -34,14 +34,18 @@ abbrev pub entry_of : Answer Entered → Answer (Unit {0})
 entry_of (refused n) = refused n
 entry_of (accepted e) = accepted tt
 
--- where the constant stands that a Str or Bytes names
-abbrev pub place_of : Program → Cell → Place
-place_of P v = if? (if? (eqb v.tag 4) true (eqb v.tag 5)) (record { start = (constant_of P v).place; size = (constant_of P v).size }) (record { start = 0; size = 0 })
+-- a Str or Bytes of the image names a constant
+abbrev pub names_constant : Cell → Bool
+names_constant v = if? (eqb v.tag 4) true (eqb v.tag 5)
+
+-- where the constant stands that a value names; another value names none
+abbrev pub place_of : Program → Cell → Option Place
+place_of P v = if? (names_constant v) (Some (record { start = (constant_of P v).place; size = (constant_of P v).size })) None
 
 -- refusal 5 where the value does not exist
-unfoldable pub named_in : Program → List ℕ → List ℕ → Cell → Answer Place
+unfoldable pub named_in : Program → List ℕ → List ℕ → Cell → Answer (Option Place)
 named_in P state store v = if? (value_fits P (store_of store) (used_in state) v) (accepted (place_of P v)) (refused 5)
 
-abbrev pub named_by : List ℕ → List ℕ → Cell → Answer Entered → Answer Place
+abbrev pub named_by : List ℕ → List ℕ → Cell → Answer Entered → Answer (Option Place)
 named_by state store v (refused n) = refused n
 named_by state store v (accepted e) = named_in e.program state store v

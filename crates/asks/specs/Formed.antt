@@ -1,5 +1,5 @@
 -- What the answer of an entry says of memory and of the value that a call brings.
-use Rattle.std.specs.Prelude.{◌≡◌, List, Bool, true, false, ℕ, length, Result, Ok}
+use Rattle.std.specs.Prelude.{◌≡◌, List, Bool, true, false, ℕ, length, Option, Result, Ok}
 use Rattle.std.proofs.Math.Path.{refl}
 use Rattle.cells.specs.declared.Cell.{Cell}
 use Rattle.image.specs.Records.{if?, Answer, refused, accepted}
@@ -29,7 +29,7 @@ module _ (state store : List ℕ) (v : Cell) where
     not_spot false h = (refl, cc)
     not_spot true h = cc
 
-    spot : (b : Bool) {p : Place} → accepted p ≡ if? b (accepted (place_of P v)) (refused 5) → (b ≡ true) × (p ≡ place_of P v)
+    spot : (b : Bool) {p : Option Place} → accepted p ≡ if? b (accepted (place_of P v)) (refused 5) → (b ≡ true) × (p ≡ place_of P v)
     spot false h = cc
     spot true h = (refl, cc)
 
@@ -38,12 +38,12 @@ module _ (state store : List ℕ) (v : Cell) where
     unfolding named_in
     none_in h = not_spot there h
 
-    pub known_in : {p : Place} → accepted p ≡ named_in P state store v → (there ≡ true) × (p ≡ place_of P v)
+    pub known_in : {p : Option Place} → accepted p ≡ named_in P state store v → (there ≡ true) × (p ≡ place_of P v)
     unfolding named_in
     known_in h = spot there h
 
 -- the state block has its length where a value is known
-pub known_size : (image state live store : List ℕ) (v : Cell) {o : Result Place Refusal} {p : Place} → says o ≡ named_by state store v (entry image state live store) → o ≡ Ok p → length state ≡ 8256
+pub known_size : (image state live store : List ℕ) (v : Cell) {o : Result (Option Place) Refusal} {p : Option Place} → says o ≡ named_by state store v (entry image state live store) → o ≡ Ok p → length state ≡ 8256
 known_size image state live store v {o} {p} h e = by (entry image state live store) refl (rw e at h)
   where
     by : (x : Answer Entered) → entry image state live store ≡ x → accepted p ≡ named_by state store v x → length state ≡ 8256

@@ -1,9 +1,8 @@
 -- A value that a call brings: whether it exists, and where the constant stands that it names.
-use Rattle.std.specs.Prelude.{◌≡◌, refl, List, [], Bool, true, false, not, ℕ, ◌+◌, ◌<◌, ◌≤◌, ◌*◌, length, get_or, take, eqb, Result, Ok, Err}
+use Rattle.std.specs.Prelude.{◌≡◌, refl, List, [], Bool, true, false, not, ℕ, ◌+◌, ◌<◌, ◌≤◌, ◌*◌, length, get_or, take, eqb, Option, Some, None, Result, Ok, Err}
 use Rattle.std.proofs.Math.Path.{sym, ap}
 use Rattle.std.proofs.Common.{◌∙◌, arith}
-use Rattle.std.proofs.Math.Decide.{dec_lt}
-use borrow.Author.Tests.{eq-eqb, ne_eqb, not-true, not-false}
+use borrow.Author.Tests.{eqb-true, not-true, not-false}
 use Rattle.cells.specs.Cells.{cells, room}
 use Rattle.cells.specs.CellsLaws.{length_cells}
 use Rattle.cells.specs.declared.Cell.{Cell}
@@ -16,15 +15,13 @@ use Rattle.image.specs.declared.Constant.{Constant}
 use Rattle.layout.specs.declared.Sizes as tables
 use Rattle.refusals.specs.Refusals.{number}
 use Rattle.refusals.specs.declared.Refusal.{Refusal}
-use Rattle.layout.specs.Reads.{Low}
-use Rattle.reader.specs.Reads.{Fits}
 use Rattle.machine.specs.Values.{Program, constant_of}
 use Rattle.machine.specs.Calls.{is_constant}
 use Rattle.memory.specs.Tests.{value_fits}
 use Rattle.scan.specs.Tables.{program_in}
 use Rattle.scan.specs.Values.{code_in, constant_code, constant_fits}
 use Rattle.form.specs.Entry.{Entered, entry, store_of, view_of, Enters}
-use Rattle.asks.specs.Entries.{used_in, place_of, named_in, named_by}
+use Rattle.asks.specs.Entries.{used_in, names_constant, place_of, named_in, named_by}
 use Rattle.asks.specs.Ready.{Ready, ready, used_is}
 use Rattle.asks.specs.declared.Place.{Place}
 
@@ -56,11 +53,11 @@ module _ (image rows constants inner : List ℕ) (codes : ℕ) (state store : Li
       unfolding named_in
       at_place = ap (λ (c : Bool). if? c (accepted (place_of P v)) (refused 5)) exists
 
-      pub named_low : v.tag < 4 → accepted (record { start = 0; size = 0 }) ≡ named_in P state store v
-      named_low h = sym (at_place ∙ rw (ne_eqb v.tag 4 (λ z. omega arith), ne_eqb v.tag 5 (λ z. omega arith)))
+      abbrev spot_if : Bool → Option Place
+      spot_if t = if? t (Some (record { start = (constant_of P v).place; size = (constant_of P v).size })) None
 
-      pub named_high : 6 ≤ v.tag → accepted (record { start = 0; size = 0 }) ≡ named_in P state store v
-      named_high h = sym (at_place ∙ rw (ne_eqb v.tag 4 (λ z. omega arith), ne_eqb v.tag 5 (λ z. omega arith)))
+      pub named_none : {n : Bool} → n ≡ names_constant v → not n ≡ true → accepted None ≡ named_in P state store v
+      named_none e h = sym (at_place ∙ ap (λ (t : Bool). accepted (spot_if t)) (sym e ∙ not-true _ h))
 
       str : v.tag ≡ 4 → is_constant P 20 v ≡ true
       unfolding value_fits
@@ -70,37 +67,32 @@ module _ (image rows constants inner : List ℕ) (codes : ℕ) (state store : Li
       unfolding value_fits
       bytes e = simp e at exists
 
-      abbrev spot_if : Bool → Place
-      spot_if t = if? t (record { start = (constant_of P v).place; size = (constant_of P v).size }) (record { start = 0; size = 0 })
+      -- then it names a constant that is there
+      module _ {n : Bool} (e : n ≡ names_constant v) (g : not n ≡ false) where
+        named : names_constant v ≡ true
+        named = sym e ∙ not-false n g
 
-      -- a Str or Bytes names a constant that is there
-      module _ (low : 4 ≤ v.tag) (high : v.tag < 6) where
         names : is_constant P (16 + v.tag) v ≡ true
-        names = by (dec_lt v.tag 5)
+        names = by (eqb v.tag 4) refl named
           where
-            by : Dec (v.tag < 5) → is_constant P (16 + v.tag) v ≡ true
-            by (yes h) =
-                let q : 16 + v.tag ≡ 20 = omega arith in
-                ap (λ (n : ℕ). is_constant P n v) q ∙ str (omega arith)
-            by (no h) =
-                let q : 16 + v.tag ≡ 21 = omega arith in
-                ap (λ (n : ℕ). is_constant P n v) q ∙ bytes (omega arith)
-
-        either : if? (eqb v.tag 4) true (eqb v.tag 5) ≡ true
-        either = by (dec_lt v.tag 5)
-          where
-            by : Dec (v.tag < 5) → if? (eqb v.tag 4) true (eqb v.tag 5) ≡ true
-            by (yes h) = rw (eq-eqb v.tag 4 (omega arith))
-            by (no h) = rw (ne_eqb v.tag 4 (λ z. omega arith), eq-eqb v.tag 5 (omega arith))
+            by : (b : Bool) → eqb v.tag 4 ≡ b → if? b true (eqb v.tag 5) ≡ true → is_constant P (16 + v.tag) v ≡ true
+            by true q h =
+                let e : v.tag ≡ 4 = eqb-true v.tag 4 q in
+                let f : 16 + v.tag ≡ 20 = omega arith in
+                ap (λ (n : ℕ). is_constant P n v) f ∙ str e
+            by false q h =
+                let e : v.tag ≡ 5 = eqb-true v.tag 5 h in
+                let f : 16 + v.tag ≡ 21 = omega arith in
+                ap (λ (n : ℕ). is_constant P n v) f ∙ bytes e
 
         pub named_there : v.payload < field rows v.number 7
         named_there = constant_fits image rows constants inner codes (16 + v.tag) v (sym names) refl
 
-        pub named_constant : {c : Constant} → c ≡ get_or (code_at image rows constants [] v.number).constants v.payload no_constant → accepted (record { start = c.place; size = c.size }) ≡ named_in P state store v
+        pub named_constant : {c : Constant} → c ≡ get_or (code_at image rows constants [] v.number).constants v.payload no_constant → accepted (Some (record { start = c.place; size = c.size })) ≡ named_in P state store v
         named_constant ec =
             let q = ec ∙ sym (ap (λ (x : Code). get_or x.constants v.payload no_constant) (code_in image rows constants inner codes v.number (constant_code image rows constants inner codes (16 + v.tag) v (sym names) refl))) in
-            ap (λ (x : Constant). accepted (record { start = x.place; size = x.size })) q
-            ∙ sym (at_place ∙ ap (λ (t : Bool). accepted (spot_if t)) either)
+            ap (λ (x : Constant). accepted (Some (record { start = x.place; size = x.size }))) q
+            ∙ sym (at_place ∙ ap (λ (t : Bool). accepted (spot_if t)) named)
 
 -- ---- The entry of a call with a value
 module _ {image state live store : List ℕ} {o : Result tables.Sizes Refusal} {rows constants inner : List ℕ} (w : Enters image state live store o rows constants inner) where
@@ -111,7 +103,7 @@ module _ {image state live store : List ℕ} {o : Result tables.Sizes Refusal} {
     abbrev Q : Program
     Q = program_in image (take (10 * h.codes) rows) (take h.constants constants) (take h.inner inner) h.codes
 
-    pub with_named : (v : Cell) {r : Answer Place} → r ≡ named_in Q state store v → r ≡ named_by state store v (entry image state live store)
+    pub with_named : (v : Cell) {r : Answer (Option Place)} → r ≡ named_in Q state store v → r ≡ named_by state store v (entry image state live store)
     with_named v q = q ∙ ap (named_by state store v) (rw e at w.does)
 
     abbrev entered : Entered
@@ -125,9 +117,3 @@ module _ {image state live store : List ℕ} {o : Result tables.Sizes Refusal} {
 
     pub with_used : used_in state ≤ length (store_of store)
     with_used = omega (arith, used_is with_ready, with_ready.fits.used)
-
-    low : Low h.codes h.constants h.inner
-    low = rw e at w.low
-
-    pub with_fits : 2560 ≤ length rows → 10923 ≤ length constants → 256 ≤ length inner → Fits h.codes h.constants h.inner rows constants inner
-    with_fits a b d = record { codes = low.codes; rows = a; constants = omega (arith, low.used); inner = omega (arith, low.codes, low.kept) }

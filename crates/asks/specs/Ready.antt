@@ -25,9 +25,6 @@ pub record Ready (e : Entered) (state live store : List ℕ) : Type 0 where
   pub holds : Holds e.world (cells state) (live_of live) (store_of store)
   pub fits : WorldFits e.program (sizes_of live store) e.world
 
-no : {A : Type 0} → false ≡ true → A
-no e = let z : ◌≡◌ {A = ℕ} 0 1 = cc in absurd (omega arith)
-
 held_ready : (P : Program) (state live store : List ℕ) (e : Entered) → length state ≡ 8256 → held P state live store ≡ accepted e → Ready e state live store
 unfolding held held_answer
 held_ready P state live store e s h = by (eqb (get_or (cells state) 0 null).tag 1) refl (in_form P (store_of store) (cells state) (live_of live)) refl h

@@ -2,15 +2,23 @@
 #![tactic(auto)]
 
 ghost use Rattle.std.specs.Prelude.{◌≡◌, ◌*◌, ◌≤◌, length, take};
-ghost use Rattle.reader.specs.Reads.{Fits};
-ghost use Rattle.cells.specs.Cells.{null};
 ghost use Rattle.scan.specs.Tables.{program_of};
 ghost use Rattle.form.specs.Entry.{entry, store_of};
 ghost use Rattle.asks.specs.Asks.{cell_of};
-ghost use Rattle.asks.specs.Entries.{used_in, says, got_said, entry_of, named_in, named_by};
+ghost use Rattle.asks.specs.Entries.{used_in, says, got_said, entry_of, names_constant, named_in, named_by};
 
-use cells::Cell;
+use cells::{Cell, Tag};
+use form::Tables;
 use refusals::Refusal;
+use scan::Objects;
+
+// How many globals there are, and how many builtins.
+pub const NAMES: u32 = 256;
+
+// What the part of an answer is a part of: the image, or the page of messages.
+pub const FROM_IMAGE: u32 = 0;
+
+pub const FROM_PAGE: u32 = 1;
 
 // A code and a value.
 #[repr(C)]
@@ -21,7 +29,7 @@ pub struct Got {
     pub high: u64,
 }
 
-// A code and a part: from 0 of the image, from 1 of the page.
+// A code and a part.
 #[repr(C)]
 #[derive(Clone, Copy)]
 pub struct Part {
@@ -55,7 +63,7 @@ pub fn answered(found: Result<Cell, Refusal>) -> Got
 {
     let (code, v) = match found {
         Ok(v) => (0, v),
-        Err(refusal) => (refusal.number(), null()),
+        Err(refusal) => (refusal.number(), Cell::NULL),
     };
     let tag = u64::from(v.tag);
     let number = u64::from(v.number);
@@ -66,85 +74,62 @@ pub fn answered(found: Result<Cell, Refusal>) -> Got
     }
 }
 
-pub fn null() -> Cell
-    ensures { result ≡ null }
-{
-    Cell {
-        tag: 0,
-        number: 0,
-        payload: 0,
-    }
-}
-
 // The entry of a call: memory is in form, or why not.
 pub fn entered(image: &[u8], state: &[u8], live: &[u8], store: &[u8]) -> Result<(), Refusal>
     ensures { says result ≡ entry_of (entry image.now state.now live.now store.now) }
 {
-    let mut rows = [0u32; 2560];
-    let mut constants = [0u32; 10923];
-    let mut inner = [0u32; 256];
-    form::enter(
-        image,
-        state,
-        live,
-        store,
-        &mut rows,
-        &mut constants,
-        &mut inner,
-    )
-    .map(|_| ())
+    let mut tables = Tables::new();
+    tables.enter(image, state, live, store).map(|_| ())
 }
 
-// Where the Str or Bytes stands that a value names, an empty place if it names none; or the value does not exist.
+// Is a value a Str or Bytes of the image, and so names a constant?
+fn names_constant(v: Cell) -> bool
+    ensures { result ≡ names_constant v }
+{
+    v.is(Tag::Str) || v.is(Tag::Bytes)
+}
+
+// Where the constant stands that a value names, if it names one; or the value does not exist.
 fn named_in(
     program: &lookups::Program,
     state: &[u8],
     store: &[u8],
     v: Cell,
-) -> Result<Place, Refusal>
+) -> Result<Option<Place>, Refusal>
     requires { (length state.now ≡ 8256) × (used_in state.now ≤ length (store_of store.now)) }
     ensures { says result ≡ named_in (program_of program.now) state.now store.now v }
 {
     let below = cells::payload(state, 0) as usize;
-    if !scan::value_fits(program, form::lent(store, 65536), below, v) {
+    let objects = Objects {
+        store: form::lent(store, 65536),
+        below,
+    };
+    if !scan::value_fits(program, &objects, v) {
         return Err(Refusal::BadValue);
     }
-    let tag = v.tag;
-    match tag {
-        4 | 5 => {
-            let c = program.constant(v.number as usize, v.payload as usize);
-            Ok(Place {
-                start: c.place,
-                size: c.size,
-            })
-        }
-        _ => Ok(Place { start: 0, size: 0 }),
+    if !names_constant(v) {
+        return Ok(None);
     }
+    let c = program.constant(v.number as usize, v.payload as usize);
+    Ok(Some(Place {
+        start: c.place,
+        size: c.size,
+    }))
 }
 
-// The entry of a call that brings a value: where the constant stands that it names.
-#[tactic(auto, using(crate::specs::Named::with_fits, crate::specs::Named::with_size, crate::specs::Named::with_used, crate::specs::Named::with_not, crate::specs::Named::with_named))]
+// The entry of a call that brings a value: where the constant stands that it names, if it names one.
+#[tactic(auto, using(form::specs::EntryLaws::enters_low, crate::specs::Named::with_size, crate::specs::Named::with_used, crate::specs::Named::with_not, crate::specs::Named::with_named))]
 pub fn entered_with(
     image: &[u8],
     state: &[u8],
     live: &[u8],
     store: &[u8],
     v: Cell,
-) -> Result<Place, Refusal>
+) -> Result<Option<Place>, Refusal>
     ensures { says result ≡ named_by state.now store.now v (entry image.now state.now live.now store.now) }
 {
-    let mut rows = [0u32; 2560];
-    let mut constants = [0u32; 10923];
-    let mut inner = [0u32; 256];
-    let sizes = form::enter(
-        image,
-        state,
-        live,
-        store,
-        &mut rows,
-        &mut constants,
-        &mut inner,
-    )?;
-    let program = form::filled(image, &rows, &constants, &inner, sizes);
+    let mut tables = Tables::new();
+    let sizes = tables.enter(image, state, live, store)?;
+    let program = tables.program(image, sizes);
     named_in(&program, state, store, v)
 }

@@ -1,6 +1,6 @@
 -- The bytes of a block of cells are copied as they stand. Assumes nothing.
-use Rattle.std.specs.Prelude.{◌≡◌, List, [], ℕ, ◌+◌, ◌*◌, ◌≤◌, length, take, drop}
-use Rattle.std.proofs.Common.{sym, ◌∙◌, arith, length-drop, length-take-le}
+use Rattle.std.specs.Prelude.{◌≡◌, List, [], ◌++◌, ℕ, ◌+◌, ◌*◌, ◌≤◌, length, take, drop}
+use Rattle.std.proofs.Common.{sym, ap, subst, ◌∙◌, arith, append_assoc, drop-drop, length-drop, length-take-le}
 use Rattle.std.proofs.Math.ListN.{drop_of_length-le}
 use Rattle.std.proofs.Math.Seq.{paste}
 use borrow.Rule.Slice.PartMut.{put_mid}
@@ -29,3 +29,12 @@ writes_block s x at start n h l =
 pub copied_bytes : (s x t : List ℕ) (at start n m k : ℕ) → m ≡ 16 * n → k ≡ 16 * n → at + n ≤ room s → start + n ≤ room x
     → t ≡ take k (drop (16 * start) x) → Writes s (paste (cells s) at (drop start (cells x)) n) (put_mid (16 * at) m s t)
 copied_bytes s x t at start n m k e f h l g = rw (g, e, f) (writes_block s x at start n h l)
+
+-- what `s.copy_within(16 * from..16 * (from + n), 16 * to)` leaves
+pub moved_bytes : (s t : List ℕ) (to from n k : ℕ) → k ≡ 16 * n → to + n ≤ room s → from + n ≤ room s → t ≡ paste s (16 * to) (drop (16 * from) s) k
+    → Writes s (paste (cells s) to (drop from (cells s)) n) t
+moved_bytes s t to from n k e h l g =
+    let x : List ℕ = take (16 * n) (drop (16 * from) s) in
+    let q : put_mid (16 * to) (16 * n) s x ≡ paste s (16 * to) (drop (16 * from) s) (16 * n) =
+    ap (λ (y : List ℕ). take (16 * to) s ++ (x ++ y)) (drop-drop (16 * n) (16 * to) s) ∙ sym (append_assoc (take (16 * to) s) x (drop (16 * to + 16 * n) s)) in
+    rw (g, e) (subst (Writes s (paste (cells s) to (drop from (cells s)) n)) q (writes_block s s to from n h l))

@@ -15,40 +15,12 @@ pub fn copy(to: &mut [u8], at: usize, from: &[u8], start: usize, n: usize)
     to[16 * at..16 * (at + n)].copy_from_slice(&from[16 * start..16 * (start + n)]);
 }
 
-// n cells go down within one slice: the first goes first, so that none is overwritten before it is read.
-#[tactic(auto, using(crate::proofs::Copied::copied_lower))]
-pub fn lower(s: &mut [u8], to: usize, from: usize, n: usize)
-    requires { (to ≤ from) × (from + n ≤ room s.old) }
-    ensures { Writes s.old (paste (cells s.old) to (drop from (cells s.old)) n) s.new }
-{
-    for moved in 0..n {
-        let c = cells::get(s, from + moved);
-        cells::put(s, to + moved, c);
-    }
-}
-
-// n cells go up within one slice: the last goes first.
-#[tactic(auto, using(crate::proofs::Copied::raised_more))]
-pub fn raise(s: &mut [u8], to: usize, from: usize, n: usize)
-    requires { (from ≤ to) × (to + n ≤ room s.old) }
-    ensures { Writes s.old (paste (cells s.old) to (drop from (cells s.old)) n) s.new }
-{
-    for left in (0..n).rev() {
-        let c = cells::get(s, from + left);
-        cells::put(s, to + left, c);
-    }
-}
-
 // n cells go from `from` to `to` within one slice, wherever the two lie.
 pub fn copy_within(s: &mut [u8], to: usize, from: usize, n: usize)
     requires { (to + n ≤ room s.old) × (from + n ≤ room s.old) }
     ensures { Writes s.old (paste (cells s.old) to (drop from (cells s.old)) n) s.new }
 {
-    if to <= from {
-        lower(s, to, from, n);
-    } else {
-        raise(s, to, from, n);
-    }
+    s.copy_within(16 * from..16 * (from + n), 16 * to);
 }
 
 // The n cells at `at` become c.

@@ -12,7 +12,7 @@ use Rattle.machine.specs.Machine.{Object, used}
 use Rattle.machine.specs.Calls as machine
 use Rattle.machine.specs.Calls.{Sizes, Outcome, stops, World, no_fuel}
 use Rattle.machine.proofs.StepLaws.{if_cases}
-use Rattle.memory.specs.Layout.{bit, state_cells}
+use Rattle.memory.specs.Layout.{state_cells}
 use Rattle.requests.specs.Sent.{unused, kind_of, return_of, answer_with, answering, request_of, in_turn, whole, asking, sent_outcome}
 use Rattle.requests.specs.Returned.{return_fits}
 use Rattle.requests.specs.Asked.{rooms_of, Holding, Entered, Leaves, SentWorld}
@@ -74,27 +74,19 @@ few_args P s args hs (ReturnValue v) b t = omega (arith, b)
 few_args P s args hs (Error v) b t = omega (arith, b)
 few_args P s args hs (Panic v) b t = omega (arith, b)
 
-bit_true : (b : Bool) → (bit b ≡ 0 → ⊥) → b ≡ true
-bit_true true h = refl
-bit_true false h = absurd (h refl)
-
-bit_false : (b : Bool) → bit b ≡ 0 → b ≡ false
-bit_false true h = absurd (omega (arith, h))
-bit_false false h = refl
-
 -- the store uses no more than there is
 pub used_fits : {P : Program} {state live store : List ℕ} {u : ℕ} → Entered P state live store → ((w : World) → cells state ≡ state_cells w → u ≡ used w.machine.store) → u ≤ room store
 used_fits e c = omega (arith, c e.world e.holding.holds.state, e.holding.fits.used)
 
 module _ {P : Program} (kind word : ℕ) (v : Cell) (args handlers : List ℕ) {state live store : List ℕ} where
-  module _ {on : ℕ} (waits : (w : World) → cells state ≡ state_cells w → on ≡ bit w.wait) where
-    pub answer_early : on ≡ 0 → SentWorld P (answering kind word v args handlers) 11 state live store state live store
+  module _ {on : Bool} (waits : (w : World) → cells state ≡ state_cells w → on ≡ w.wait) where
+    pub answer_early : on ≡ false → SentWorld P (answering kind word v args handlers) 11 state live store state live store
     unfolding sent_outcome in_turn
-    answer_early e = sent_refused (λ w h. (ap (λ (b : Bool). if? b (asking P (rooms_of live store) w (request_of no_fuel (answering kind word v args handlers))) (stops 11)) (bit_false w.wait (sym (waits w h.holds.state) ∙ e))))
+    answer_early e = sent_refused (λ w h. (ap (λ (b : Bool). if? b (asking P (rooms_of live store) w (request_of no_fuel (answering kind word v args handlers))) (stops 11)) (sym (waits w h.holds.state) ∙ e)))
 
-    module _ (ne : on ≡ 0 → ⊥) where
+    module _ (on_is : on ≡ true) where
       waiting : (w : World) → Holding P w state live store → w.wait ≡ true
-      waiting w h = bit_true w.wait (λ e. ne (waits w h.holds.state ∙ e))
+      waiting w h = sym (waits w h.holds.state) ∙ on_is
 
       asked_is : (x : Answer machine.CallbackReturn) → x ≡ return_of kind v args handlers → (w : World) → Holding P w state live store
           → asking P (rooms_of live store) w (answer_with word no_fuel x) ≡ sent_outcome P (rooms_of live store) (answering kind word v args handlers) w

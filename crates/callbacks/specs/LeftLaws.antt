@@ -1,16 +1,17 @@
 -- The frames left of an answer, one law for each return.
-use Rattle.std.specs.Prelude.{◌≡◌, refl, ◌⊎◌, List, [], ◌∷◌, ◌++◌, ℕ, ◌-◌, ◌<◌, length, Result, Ok, Err}
-use Rattle.std.proofs.Common.{ap, ◌∙◌, append_assoc, arith, inl, inr}
+use Rattle.std.specs.Prelude.{◌≡◌, refl, ◌⊎◌, List, ◌∷◌, ℕ, ◌-◌, ◌<◌, length, Result, Ok, Err}
+use Rattle.std.proofs.Common.{◌∙◌, arith, inl, inr}
 use Rattle.cells.specs.declared.Cell.{Cell}
 use Rattle.machine.specs.Values.{Program}
 use Rattle.machine.specs.Machine.{Frame, host}
 use Rattle.machine.specs.Calls.{distinct}
-use Rattle.memory.specs.Layout.{flat, frame_cells}
+use Rattle.memory.specs.Layout.{flat}
 use Rattle.memory.proofs.Lists.{length_flat}
-use Rattle.moves.specs.Frames.{Live}
-use Rattle.plan.specs.Rest.{Same, Begins}
+use Rattle.moves.specs.Frames.{live_drop}
+use Rattle.plan.specs.Rest.{Same}
+use Rattle.plan.proofs.RestLaws.{same_refl}
 use Rattle.plan.specs.declared.Counts.{Counts}
-use Rattle.actions.specs.Tables.{lower_onto}
+use Rattle.actions.specs.Tables.{begins_below}
 use Rattle.requests.specs.Returned.{frames_left}
 use Rattle.answers.specs.Answered.{Laid, PutsDistinct, PutsHandlers}
 use Rattle.refusals.specs.declared.Refusal.{Refusal}
@@ -20,22 +21,11 @@ use Rattle.replies.specs.declared.CallbackReturn.{CallbackReturn}
 use Rattle.replies.specs.declared.CallbackReturn.TheVariants.{Call, Perform, TailCall, TailPerform, ReturnValue, Error, Panic}
 use Rattle.callbacks.specs.Replies.{Few, Many, LeavesFrames}
 
--- the frames below a top frame
-pub live_below : {f : Frame} {below : List Frame} {L : List Cell} → Live (f ∷ below) L → Live below L
-unfolding flat
-live_below {f} {below} l = record { free = frame_cells f ++ l.free; is = l.is ∙ append_assoc (flat below) (frame_cells f) l.free }
-
-begins_below : (f : Frame) (below : List Frame) (starts : List ℕ) → Begins (f ∷ below) starts → Begins below starts
-begins_below f below starts b i lt = b i (omega arith) ∙ ap (λ (fs : List Frame). length (flat fs)) (lower_onto (f ∷ []) below i (omega arith))
-
 laid_below : {f : Frame} {below : List Frame} {base end : ℕ} {L : List Cell} {starts : List ℕ} → base ≡ length (flat below) → Laid (f ∷ below) end L starts → Laid below base L starts
-laid_below {f} {below} {starts = starts} e l = record { live = live_below l.live; begins = begins_below f below starts l.begins; ends = e ∙ length_flat below }
+laid_below {f} {below} {starts = starts} e l = record { live = live_drop l.live; begins = begins_below f below starts l.begins; ends = e ∙ length_flat below }
 
 abbrev tail_counts : ℕ → Counts → Counts
 tail_counts base c = record { frames = c.frames - 1; live = base; store = c.store }
-
-same : (work : List ℕ) → Same work work
-same work = record { rest = refl; len = refl }
 
 -- an answer whose own frame is gone, and one whose frame stays as it is
 abbrev Goes : Program → List Cell → CallbackReturn → Type 0
@@ -68,7 +58,7 @@ module _ (P : Program) (handlers : List Cell) (base : ℕ) (c : Counts) (work : 
     few = k;
     laid = λ args n w st hs below starts e q l. rw (g args (λ (new : List Cell). host n w st new) hs below) (omega (arith, q), laid_below e l);
     store = refl;
-    same = same work;
+    same = same_refl work;
   }
 
   left_stays : Few P r handlers → Stays P handlers r → LeavesFrames P r handlers base c c work work
@@ -76,7 +66,7 @@ module _ (P : Program) (handlers : List Cell) (base : ℕ) (c : Counts) (work : 
     few = k;
     laid = λ args n w st hs below starts e q l. rw (g args (λ (new : List Cell). host n w st new) hs below) (q, l);
     store = refl;
-    same = same work;
+    same = same_refl work;
   }
 
   pub left_gone : ((x : Cell) × (r ≡ TailCall x)) ⊎ (((x : Cell) × (r ≡ TailPerform x)) ⊎ ((x : Cell) × (r ≡ ReturnValue x))) → 0 < c.frames

@@ -7,7 +7,7 @@ use Rattle.std.proofs.Math.Bool.{true, false}
 use native.Mathlib.Omega.{arith}
 use Rattle.cells.specs.declared.Cell.{Cell}
 use Rattle.image.specs.Records.{if?}
-use Rattle.image.proofs.Parts.{clash}
+use Rattle.std.proofs.lemmas.Bool.{false≢true}
 use Rattle.machine.specs.Values.{Program, lucia_error, lucia_panic}
 use Rattle.machine.specs.Machine.{Frame, lucia, host, effect_callback, Object, Result, running, returned, failed, unhandled, M, with_frames}
 use Rattle.machine.specs.Opcodes.{Action, calls, performs, throws, returns, doing, Taken, refuses}
@@ -78,13 +78,13 @@ unfolding top_of
 awaited P z w f e = by w.machine.result refl w.machine.frames refl (subst (λ (b : Bool). TurnFits (top_of w.machine.result w.machine.frames) b w.slice) e f.turn)
   where
     by : (r : Result) → w.machine.result ≡ r → (F : List Frame) → w.machine.frames ≡ F → TurnFits (top_of r F) true w.slice → Awaits w
-    by running q [] p t = absurd (clash (sym t.0))
-    by running q (lucia h i l s hs ∷ F) p t = absurd (clash (sym t.0))
+    by running q [] p t = absurd (false≢true (sym t.0))
+    by running q (lucia h i l s hs ∷ F) p t = absurd (false≢true (sym t.0))
     by running q (host n v s hs ∷ F) p t = record { number = n; word = v; stack = s; handlers = hs; below = F; frames = p; running = q }
-    by running q (effect_callback x s hs ∷ F) p t = absurd (clash (sym t.0))
-    by (returned v) q F p t = absurd (clash (sym t.0))
-    by (failed x) q F p t = absurd (clash (sym t.0))
-    by (unhandled x args) q F p t = absurd (clash (sym t.0))
+    by running q (effect_callback x s hs ∷ F) p t = absurd (false≢true (sym t.0))
+    by (returned v) q F p t = absurd (false≢true (sym t.0))
+    by (failed x) q F p t = absurd (false≢true (sym t.0))
+    by (unhandled x args) q F p t = absurd (false≢true (sym t.0))
 
 -- what an answer that is one comes to
 abbrev pub replied : Program → Sizes → ℕ → CallbackReturn → World → Outcome

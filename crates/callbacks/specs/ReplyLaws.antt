@@ -16,9 +16,10 @@ use Rattle.machine.specs.Calls as machine
 use Rattle.machine.specs.Calls.{Sizes, Outcome, top_handlers, handlers_left, does, stops, World, world}
 use Rattle.machine.specs.Demand.{All}
 use Rattle.machine.specs.Form.{FrameFits}
+use Rattle.machine.proofs.FormLaws.{top_few}
 use Rattle.memory.specs.Layout.{flat, result_shown, state_cells, live_cells, Holds}
 use Rattle.memory.proofs.Lists.{length_flat}
-use Rattle.moves.specs.Frames.{Live}
+use Rattle.moves.specs.Frames.{Live, live_below}
 use Rattle.moves.specs.Objects.{Stored}
 use Rattle.plan.specs.Rest.{counts_of, Held, Rests}
 use Rattle.plan.specs.Plans.{Carries}
@@ -27,9 +28,10 @@ use Rattle.plan.specs.declared.Plan.{Plan}
 use Rattle.actions.specs.Tables.{lower_onto, lower_all}
 use Rattle.requests.specs.Returned.{frames_left}
 use Rattle.requests.specs.Asked.{rooms_of, Holding, Finishable, FinishLeaves, Finishes, Leaves, finish_number}
-use Rattle.requests.specs.FinishLaws.{granted, some}
+use Rattle.counts.specs.Judged.{granted}
 use Rattle.requests.specs.AskedLaws.{live_of, args_cost}
 use Rattle.refusals.specs.Refusals.{number}
+use Rattle.refusals.proofs.NumberLaws.{number_not_zero}
 use Rattle.refusals.specs.declared.Refusal.{Refusal}
 use Rattle.refusals.specs.declared.Refusal.TheVariants.{ManyHandlers}
 use Rattle.answers.specs.Answered.{Laid, Layable, Lays}
@@ -38,26 +40,20 @@ use Rattle.replies.specs.declared.CallbackReturn.{CallbackReturn}
 use Rattle.replies.specs.declared.CallbackReturn.TheVariants.{Call, Perform, TailCall, TailPerform, ReturnValue, Error, Panic}
 use Rattle.callbacks.specs.Outcomes.{action_of, Awaits, awaited, replied, left_of, done_by, machine_left, machine_done, reply_fits, reply_many}
 use Rattle.callbacks.specs.Replies.{Leavable, Few, Many, LeavesFrames, LeftBy, Replyable, RepliesWorld}
-use Rattle.callbacks.specs.LeftLaws.{live_below}
 
 -- the first cells of another slice in the place of the first ones
 paste_front : (d x : List Cell) (n : ℕ) → paste d 0 (drop 0 x) n ≡ take n x ++ drop n d
 paste_front d x n = paste_is d 0 x n ∙ ap (λ (k : ℕ). take n x ++ drop k d) (zero-add n)
 
 -- ---- The top of the frames left has at most 16 handlers
-few_below : (P : Program) (s : List Object) (F : List Frame) → All (FrameFits P s) F → top_handlers F ≤ 16
-unfolding top_handlers
-few_below P s [] a = omega arith
-few_below P s (f ∷ F) a = a.0.formed.handlers
-
 few_top : (P : Program) (s : List Object) (n v word : ℕ) (st hs : List Cell) (below : List Frame) (args handlers : List Cell) (r : CallbackReturn) → All (FrameFits P s) (host n v st hs ∷ below) → Few P r handlers
     → top_handlers (frames_left P (λ (new : List Cell). host n word st new) hs below (return_with r args handlers)) ≤ 16
 unfolding top_handlers frames_left handlers_of
 few_top P s n v word st hs below args handlers (Call f) a k = k
 few_top P s n v word st hs below args handlers (Perform e) a k = a.0.formed.handlers
-few_top P s n v word st hs below args handlers (TailCall f) a k = few_below P s below a.1
-few_top P s n v word st hs below args handlers (TailPerform e) a k = few_below P s below a.1
-few_top P s n v word st hs below args handlers (ReturnValue x) a k = few_below P s below a.1
+few_top P s n v word st hs below args handlers (TailCall f) a k = top_few P s below a.1
+few_top P s n v word st hs below args handlers (TailPerform e) a k = top_few P s below a.1
+few_top P s n v word st hs below args handlers (ReturnValue x) a k = top_few P s below a.1
 few_top P s n v word st hs below args handlers (Error x) a k = a.0.formed.handlers
 few_top P s n v word st hs below args handlers (Panic x) a k = a.0.formed.handlers
 
@@ -71,11 +67,6 @@ left_length P self hs below args handlers (TailPerform e) = omega arith
 left_length P self hs below args handlers (ReturnValue v) = omega arith
 left_length P self hs below args handlers (Error v) = omega arith
 left_length P self hs below args handlers (Panic v) = omega arith
-
--- the frames under the top
-live_under : (F : List Frame) {L : List Cell} → Live F L → Live (drop 1 F) L
-live_under [] l = l
-live_under (f ∷ F) l = live_below l
 
 -- what a reader of the state block says of the world that it holds
 abbrev Shows : List ℕ → (World → ℕ) → ℕ → Type 0
@@ -225,7 +216,7 @@ module _ {P : Program} {r : CallbackReturn} {args handlers state live store : Li
             held = record {
               running = is_running;
               counts = counts_left;
-              under = record { below = live_under M₀.frames laid_left.1.live; begins = laid_left.1.begins };
+              under = record { below = live_below M₀.frames laid_left.1.live; begins = laid_left.1.begins };
               store = stored;
               objects = h.fits.store;
             }
@@ -293,7 +284,7 @@ module _ {P : Program} {r : CallbackReturn} {args handlers state live store : Li
                   let kept = o.refused in
                   let u : (state' ≡ state) × (copy ≡ left) × (store' ≡ store) = rw e at kept in
                   let n : finish_number done ≡ number x = ap finish_number e in
-                  let z : eqb (finish_number done) 0 ≡ false = ap (λ (k : ℕ). eqb k 0) n ∙ ne_eqb (number x) 0 (some x) in
+                  let z : eqb (finish_number done) 0 ≡ false = ap (λ (k : ℕ). eqb k 0) n ∙ ne_eqb (number x) 0 (number_not_zero x) in
                   record {
                     leaves = λ w h. subst (λ (y : Outcome). Leaves y (number x) state live store state' live store') (ap (λ (k : ℕ). stops k) (sym n) ∙ chosen false z w h) (refl, u.0, refl, u.2);
                     same_state = o.same_state;

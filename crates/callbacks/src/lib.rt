@@ -31,16 +31,12 @@ fn frames_left(
     let gone = Counts {
         frames: c.frames - 1,
         live: base,
-        store: c.store,
+        ..c
     };
     match r {
         CallbackReturn::Call(_) => {
             let end = answers::put_handlers(program, handlers, work, base)?;
-            Ok(Counts {
-                frames: c.frames,
-                live: end,
-                store: c.store,
-            })
+            Ok(Counts { live: end, ..c })
         }
         CallbackReturn::Perform(_) | CallbackReturn::Error(_) | CallbackReturn::Panic(_) => Ok(c),
         CallbackReturn::TailCall(_)
@@ -98,7 +94,7 @@ pub fn answer(
     requires { Entered (program_of program.now) state.old live.old store.old }
     ensures { SentWorld (program_of program.now) (answering kind word v args.now handlers.now) (number_of result) state.old live.old store.old state.new live.new store.new }
 {
-    if states::waits(state) == 0 {
+    if !states::waits(state) {
         return Err(Refusal::OutOfTurn);
     }
     let r = replies::return_of(kind, v, args, handlers)?;

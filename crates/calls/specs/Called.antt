@@ -29,7 +29,7 @@ pub record Errs (x : Error) (e : Cell) (args : List Cell) (left : Result) : Type
   pub arguments : args ≡ shown error ∷ []
   pub fails : left ≡ failed error
 
--- the thrown of a perform, whose plan is carried out with the arguments `given`: those performed with, or any, where a throw has its own
+-- the error that was thrown, if any, of a perform whose plan is carried out with the arguments `given`: those performed with, or any, where a throw has its own
 abbrev pub Caused : Option Error → Cell → List Cell → List Cell → Result → Type 0
 Caused None e args given left = (given ≡ args) × (left ≡ unhandled e args)
 Caused (Some x) e args given left = Errs x e args left

@@ -16,7 +16,8 @@ use Rattle.cells.specs.declared.Cell.{Cell}
 use Rattle.image.specs.Records.{if?, both}
 use Rattle.image.specs.Program.{Code}
 use Rattle.image.specs.Layout.{code_at}
-use Rattle.image.proofs.Parts.{clash, first, second, length_tab}
+use Rattle.std.proofs.lemmas.Bool.{false≢true}
+use Rattle.image.proofs.Parts.{first, second, length_tab}
 use Rattle.program.specs.Looks.{body_at}
 use Rattle.machine.specs.Values.{Program, cell, closure_at, code_of, code_params, type_of, is_effect, call_arguments, meta_un_operator}
 use Rattle.machine.specs.Machine.{Frame, host, effect_callback, Object, closure, list, continuation, returned, M, with_frames, with_result, with_store, Lookup, here, absent, object_at, wrong_count, parse, parse_args, throw_error, Function, is_closure, is_callback, is_effect_callback, is_continuation, is_none, closure_function, continuation_function, function_of, put_back, resume, new_frame, call_closure, call_function, return_value}
@@ -66,9 +67,9 @@ module _ (P : Program) (s : List Object) (f : Cell) (h : is_value P s f ≡ true
     where
       by : (o : Lookup) → object_at s f.number ≡ o → is_closure_at o ≡ true → f.payload ≡ 0 → Closed s f
       by (here (closure c us)) q t z = record { code = c; upvalues = us; there = q; is = λ i. record { tag = e i; number = f.number; payload = z i } }
-      by (here (list vs)) q t z = absurd (clash t)
-      by (here (continuation K)) q t z = absurd (clash t)
-      by absent q t z = absurd (clash t)
+      by (here (list vs)) q t z = absurd (false≢true t)
+      by (here (continuation K)) q t z = absurd (false≢true t)
+      by absent q t z = absurd (false≢true t)
 
   value_continued : f.tag ≡ 23 → Continued s f
   unfolding is_value is_continuation_at
@@ -76,10 +77,10 @@ module _ (P : Program) (s : List Object) (f : Cell) (h : is_value P s f ≡ true
       let w : both (eqb f.payload 0) (is_continuation_at (object_at s f.number)) ≡ true = simp e at h in by (object_at s f.number) refl (second (eqb f.payload 0) _ w)
     where
       by : (o : Lookup) → object_at s f.number ≡ o → is_continuation_at o ≡ true → Continued s f
-      by (here (closure c us)) q t = absurd (clash t)
-      by (here (list vs)) q t = absurd (clash t)
+      by (here (closure c us)) q t = absurd (false≢true t)
+      by (here (list vs)) q t = absurd (false≢true t)
       by (here (continuation K)) q t = record { frames = K; there = q }
-      by absent q t = absurd (clash t)
+      by absent q t = absurd (false≢true t)
 
   -- an effect is a builtin, or one that the image declares
   effect_tag : type_of f ≡ 8 → (f.tag ≡ 8) ⊎ (f.tag ≡ 24)
@@ -227,7 +228,7 @@ module _ (P : Program) (frames : ℕ) (f : Cell) (n : ℕ) (L S : List Cell) (st
   begins_effect e q = rw q λ args l.
       calls_by (λ s m. with_frames (effect_callback f (reverse args) [] ∷ m.frames) m)
       (λ m c h w. ap (λ (g : Function). call_function P g f args m) (function_effect m.store f e))
-      (λ m l u w. record { frame = effect_callback f (reverse args) []; is = refl; enough = λ z. absurd (clash z); after = refl })
+      (λ m l u w. record { frame = effect_callback f (reverse args) []; is = refl; enough = λ z. absurd (false≢true z); after = refl })
 
   pub begins_host : f.tag ≡ 39 → r ≡ callback_frame kinds.Host f → BeginsCall P frames f n L S starts r
   unfolding call_function parse written
@@ -237,7 +238,7 @@ module _ (P : Program) (frames : ℕ) (f : Cell) (n : ℕ) (L S : List Cell) (st
       (λ m l u w. record {
         frame = host f.number f.payload (reverse args) [];
         is = λ i. new_written 65 (record { tag = sym e i; number = f.number; payload = f.payload }) 0 args;
-        enough = λ z. absurd (clash z);
+        enough = λ z. absurd (false≢true z);
         after = refl;
       })
 

@@ -21,7 +21,7 @@ use Rattle.plan.specs.declared.Found.{Found}
 use Rattle.plan.specs.declared.Plan.{Plan}
 use Rattle.plan.specs.declared.Plan.TheVariants.{Handles, Catches, Unhandled, Fails, Stays}
 use Rattle.calls.specs.Called.{checks, Caused, Handling, Lacking, Performs, ThrowsError}
-use Rattle.plan.specs.declared.ErrorKind.TheVariants.{CallArguments}
+use Rattle.results.specs.declared.ErrorKind.TheVariants.{CallArguments}
 use Rattle.plan.specs.Kinds.{kind_of}
 
 -- ---- How many arguments fit
@@ -43,7 +43,7 @@ pub wrong_shown : (count n : ℕ) {b : Bool} {u : ℕ} → ((b ≡ true) × (u �
 unfolding error_shown kind_of
 wrong_shown count n h = ⊎_elim (λ w. rw (w.0, w.1) refl) (λ w. rw (w.0, w.1) refl) h
 
--- ---- The plan by the thrown
+-- ---- The plan by the error that was thrown, if any
 module _ {thrown : Option Error} (e : Cell) where
   module _ (i j : ℕ) (p : Params) where
     pub handling_performed : thrown ≡ None → Handling i j e p thrown (Handles i j e p)

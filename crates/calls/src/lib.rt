@@ -12,10 +12,23 @@ ghost use Rattle.machine.specs.Calls.{is_value, is_function};
 ghost use Rattle.scan.specs.Tables.{program_of};
 ghost use Rattle.plan.specs.Plans.{params_of, error_of};
 ghost use Rattle.plan.specs.Searches.{Lies};
+ghost use Rattle.image.specs.Layout.{flat};
 ghost use Rattle.calls.specs.Called.{checks, Handling, Lacking, callback_frame, code_named, Callable, Performs, ThrowsError, CallsFunction, BeginsNone, BeginsCall, ReturnsValue};
 
-use cells::Cell;
+use cells::{Cell, Tag};
 use plan::{Error, ErrorKind, FrameKind, Params, Plan, Start};
+use values::Metamethod;
+
+// The tags of functions as numbers: with a `match` of `Tag::try_from` a call and its return take a quarter longer.
+const CLOSURE: u32 = Tag::Closure as u32;
+
+const BUILTIN_EFFECT: u32 = Tag::BuiltinEffect as u32;
+
+const CONTINUATION: u32 = Tag::Continuation as u32;
+
+const EFFECT: u32 = Tag::Effect as u32;
+
+const CALLBACK: u32 = Tag::Callback as u32;
 
 // The frame that a call begins.
 #[derive(Clone, Copy)]
@@ -25,28 +38,24 @@ pub struct Beginning {
 }
 
 // `check_args`.
+#[tactic(auto, unfolding(crate::specs::Called::checks))]
 fn check_args(p: Params, n: usize) -> bool
     ensures { result ≡ checks p n }
 {
-    if p.variadic {
-        return p.count as usize <= n;
-    }
-    p.count as usize == n
+    let count = usize::from(p.count);
+    if p.variadic { count <= n } else { count == n }
 }
 
 // A count that is refused.
+#[tactic(auto, unfolding(memory::specs::Layout::error_shown, plan::specs::Kinds::kind_of))]
 fn wrong_count(p: Params, n: usize) -> Error
     ensures { result ≡ error_of (call_arguments p.count p.variadic n) }
 {
-    let mut unbounded = 0;
-    if p.variadic {
-        unbounded = 1;
-    }
     Error {
         kind: ErrorKind::CallArguments,
         value: Cell {
-            tag: p.count as u32,
-            number: unbounded,
+            tag: u32::from(p.count),
+            number: u32::from(p.variadic),
             payload: n as u64,
         },
         second: 0,
@@ -133,7 +142,7 @@ pub fn callable(f: Cell) -> bool
 {
     let tag = f.tag;
     match tag {
-        7 | 8 | 23 | 24 | 39 => true,
+        CLOSURE | BUILTIN_EFFECT | CONTINUATION | EFFECT | CALLBACK => true,
         _ => false,
     }
 }
@@ -144,7 +153,7 @@ pub fn is_function(f: Cell) -> bool
 {
     let tag = f.tag;
     match tag {
-        7 | 23 | 39 => true,
+        CLOSURE | CONTINUATION | CALLBACK => true,
         _ => false,
     }
 }
@@ -169,7 +178,7 @@ fn callback(kind: FrameKind, f: Cell) -> Option<Beginning>
 // The parameters of a closure.
 fn closure_params(program: &lookups::Program, store: &[u8], f: Cell) -> Params
     requires { f.number < room store.now }
-    ensures { result ≡ params_of (code_params (body_at program.now.image.now program.now.rows.now (code_named (cells store.now) f))) }
+    ensures { result ≡ params_of (code_params (body_at program.now.image.now (flat program.now.rows.now) (code_named (cells store.now) f))) }
 {
     let code = cells::number(store, f.number as usize) as usize;
     Params {
@@ -221,9 +230,9 @@ pub fn frame_of(
 {
     let tag = f.tag;
     match tag {
-        8 | 24 => callback(FrameKind::Effect, f),
-        39 => callback(FrameKind::Host, f),
-        7 => closure_frame(program, live, store, starts, frames, f, n),
+        BUILTIN_EFFECT | EFFECT => callback(FrameKind::Effect, f),
+        CALLBACK => callback(FrameKind::Host, f),
+        CLOSURE => closure_frame(program, live, store, starts, frames, f, n),
         _ => None,
     }
 }
@@ -244,11 +253,7 @@ fn resume(
     if n == 1 {
         return Plan::Resumes(f.number as usize, cells::get(args, 0));
     }
-    let one = Params {
-        count: 1,
-        variadic: false,
-    };
-    let x = wrong_count(one, n);
+    let x = wrong_count(Params::ONE, n);
     throw_error(program, live, starts, frames, 1, x)
 }
 
@@ -267,7 +272,7 @@ fn no_frame(
 {
     let tag = f.tag;
     match tag {
-        7 => throw_error(
+        CLOSURE => throw_error(
             program,
             live,
             starts,
@@ -275,14 +280,14 @@ fn no_frame(
             1,
             wrong_count(closure_params(program, store, f), cells::room(args)),
         ),
-        23 => resume(program, live, starts, frames, f, args),
+        CONTINUATION => resume(program, live, starts, frames, f, args),
         _ => throw_error(
             program,
             live,
             starts,
             frames,
             1,
-            values::meta_un_operator(0, values::type_of(f)),
+            values::meta_un_operator(Metamethod::Call as u32, values::type_of(f)),
         ),
     }
 }

@@ -1,6 +1,6 @@
 -- A capture on a whole machine: where its parts lie, what there is room for, and what the moves of the code leave.
-use Rattle.std.specs.Prelude.{◌≡◌, refl, Bool, true, false, ℕ, ◌+◌, ◌-◌, ◌<◌, ◌≤◌, get_or, set, take, drop}
-use Rattle.std.proofs.Common.{sym, subst, ◌∙◌, arith, length-drop, drop_at, length-take-le}
+use Rattle.std.specs.Prelude.{◌≡◌, refl, ℕ, ◌+◌, ◌-◌, ◌<◌, ◌≤◌, get_or, set, drop}
+use Rattle.std.proofs.Common.{sym, subst, ◌∙◌, arith, drop_at}
 use Rattle.std.proofs.Math.Path.{ap}
 use mathlib.Core.List.{List, [], ◌∷◌, ◌++◌, reverse, append_assoc}
 use Rattle.std.proofs.Math.ListN.{length, length-append}
@@ -8,14 +8,15 @@ use Rattle.std.proofs.lemmas.List.{length-reverse}
 use Rattle.cells.specs.Cells.{room, cells, Writes}
 use Rattle.cells.specs.CellsLaws.{length_cells}
 use Rattle.cells.specs.declared.Cell.{Cell}
-use Rattle.machine.specs.Values.{Program, list_at, continuation_at, thrown, shown}
-use Rattle.machine.specs.Machine.{Frame, lucia, host, effect_callback, Object, list, continuation, Result, M, frame_cost, frames_cost, cost, used, result_cost, parse, enter}
+use Rattle.machine.specs.Values.{Program, continuation_at, thrown, shown}
+use Rattle.machine.specs.Machine.{Frame, lucia, host, effect_callback, Object, continuation, Result, M, frame_cost, frames_cost, cost, used, result_cost, parse, enter}
 use Rattle.machine.proofs.Store.{used_append}
+use Rattle.machine.proofs.Refusals.{frames_few}
 use Rattle.memory.specs.Layout.{written, flat}
 use Rattle.memory.specs.Lists.{written_cost}
-use Rattle.memory.proofs.Lists.{length_flat, flat_append, cost_append}
+use Rattle.memory.proofs.Lists.{length_flat, cost_append}
 use Rattle.moves.specs.Runs.{clear_handlers}
-use Rattle.moves.specs.Frames.{Live, kept_stack}
+use Rattle.moves.specs.Frames.{Live, kept_stack, live_under}
 use Rattle.moves.specs.Objects.{Stored, made, captured}
 use Rattle.moves.specs.Starts.{lower}
 use Rattle.plan.specs.Rest.{Appends}
@@ -25,19 +26,10 @@ use Rattle.plan.specs.Parsed.{Lists}
 use Rattle.plan.specs.declared.Counts.{Counts}
 use Rattle.plan.specs.declared.Error.{Error}
 use Rattle.plan.specs.declared.Params.{Params}
+use Rattle.plan.proofs.ParsedLaws.{parsed_count, parsed_used}
 use Rattle.captures.specs.Entered.{Enterable, Enters, Lies, Capturable, Catchable, Captures, CapturesError}
 
 -- ---- Costs
-parsed_count : (b : Bool) (n : ℕ) (args : List Cell) (s : List Object) → (b ≡ true → n ≤ length args) → length (parse b n args s).args ≡ taken_count (record { count = n; variadic = b }) (length args)
-unfolding parse taken_count
-parsed_count true n args s le = length-append (take n args) (list_at (used s) ∷ []) ∙ omega (arith, length-take-le n args (le refl))
-parsed_count false n args s le = refl
-
-parsed_used : (b : Bool) (n : ℕ) (args : List Cell) (s : List Object) → used (parse b n args s).store ≡ used s + listed_cells (record { count = n; variadic = b }) (length args)
-unfolding parse listed_cells used cost
-parsed_used true n args s = used_append s (list (drop n args) ∷ []) ∙ omega (arith, length-drop n args)
-parsed_used false n args s = omega arith
-
 captured_used : (s : List Object) (K : List Frame) → used (s ++ (continuation K ∷ [])) ≡ used s + 1 + frames_cost K
 unfolding used cost
 captured_used s K = used_append s (continuation K ∷ []) ∙ omega arith
@@ -47,18 +39,6 @@ unfolding enter frame_cost written
 entered_cost P e k args (lucia c q l s hs) = omega (arith, length-append (reverse args) (k ∷ s), length-reverse args)
 entered_cost P e k args (host n w s hs) = omega (arith, length-reverse (e ∷ k ∷ args))
 entered_cost P e k args (effect_callback x s hs) = omega (arith, length-reverse (e ∷ k ∷ args))
-
--- a frame has a cell at least
-some_cost : (fs : List Frame) → length fs ≤ frames_cost fs
-unfolding frames_cost frame_cost
-some_cost [] = omega arith
-some_cost (lucia c p l s hs ∷ fs) = omega (arith, some_cost fs)
-some_cost (host n w s hs ∷ fs) = omega (arith, some_cost fs)
-some_cost (effect_callback e s hs ∷ fs) = omega (arith, some_cost fs)
-
--- ---- The frames below some others
-live_under : (above : List Frame) {fs : List Frame} {L : List Cell} → Live (above ++ fs) L → Live fs L
-live_under above {fs} o = record { free = flat above ++ o.free; is = o.is ∙ ap (λ (l : List Cell). l ++ o.free) (flat_append above fs) ∙ append_assoc (flat fs) (flat above) o.free }
 
 lower_is : (above fs : List Frame) (i : ℕ) → length fs ≡ i → lower i (above ++ fs) ≡ fs
 lower_is above fs i e =
@@ -107,7 +87,7 @@ module _ {P : Program} {i j : ℕ} {e : Cell} {p : Params} {args : List Cell} {m
   used_after_lem : c.store + 1 + (c.live - get_or starts (i + 1) 0) + listed_cells p (length args) ≡ used m'.store
   used_after_lem =
       let k : used m'.store ≡ used (m.store ++ (continuation h.above ∷ [])) + listed_cells p (length args) =
-      ap (λ (x : M). used x.store) h.after ∙ parsed_used p.variadic p.count args (m.store ++ (continuation h.above ∷ [])) in
+      ap (λ (x : M). used x.store) h.after ∙ parsed_used p args (m.store ++ (continuation h.above ∷ [])) in
       omega (arith, k, list_is)
 
 -- ---- There is room
@@ -141,7 +121,7 @@ module _ {c : Counts} {i j : ℕ} {p : Params} {n : ℕ} {live store starts : Li
 
   uses : used o.after.store ≡ used objects + listed_cells p n
   uses =
-      ap (λ (m : M). used m.store) handles.after ∙ parsed_used p.variadic p.count o.does.args objects
+      ap (λ (m : M). used m.store) handles.after ∙ parsed_used p o.does.args objects
       ∙ ap (λ (k : ℕ). used objects + listed_cells p k) o.does.count
 
   enough_there : Enough p n
@@ -163,7 +143,7 @@ module _ {c : Counts} {i j : ℕ} {p : Params} {n : ℕ} {live store starts : Li
         above = omega (arith, a, b, k);
         cells_live = there;
         cells_store = omega (arith, o.fits_store, uses, list_is h l);
-        few = omega (arith, o.small_live, count_is h l, a, some_cost h.above, some_cost (h.handler ∷ h.below), h.at);
+        few = omega (arith, o.small_live, count_is h l, a, frames_few h.above, frames_few (h.handler ∷ h.below), h.at);
         small_live = o.small_live;
         small_store = o.small_store;
         enough = enough_there;
@@ -176,12 +156,12 @@ module _ {c : Counts} {i j : ℕ} {p : Params} {n : ℕ} {live store starts : Li
       let h = handles in
       let A : List Cell = (parse p.variadic p.count o.does.args objects).args in
       let k : Cell = continuation_at (used o.machine.store) in
-      let a : length A ≡ taken_count p n = parsed_count p.variadic p.count o.does.args objects h.enough ∙ ap (taken_count p) o.does.count in
+      let a : length A ≡ taken_count p n = parsed_count p o.does.args objects h.enough ∙ ap (taken_count p) o.does.count in
       let f : frames_cost o.after.frames ≡ frame_cost (enter o.program o.does.effect k A h.handler) + frames_cost h.below = ap (λ (m : M). frames_cost m.frames) h.after in
       record {
         frame = h.handler;
         below = h.below;
-        live = live_under h.above (live_all h l);
+        live = live_under h.above _ (live_all h l);
         at = begins_below h l;
         is = h.first.within;
         fits = omega (arith, o.fits_live, f, entered_cost o.program o.does.effect k A h.handler, a, begins_below h l, length_flat h.below);
@@ -205,7 +185,7 @@ module _ {c : Counts} {i j : ℕ} {p : Params} {n : ℕ} {live store starts : Li
   captures_all {e} {args} {mid} {live'} {store'} u v w = record {
     frames = λ P m m' h l.
         let s : List Object = m.store ++ (continuation h.above ∷ []) in
-        let f = w.live P h.handler h.below s (live_under h.above (live_all h l)) (begins_below h l) h.first (list_is h l) in
+        let f = w.live P h.handler h.below s (live_under h.above _ (live_all h l)) (begins_below h l) h.first (list_is h l) in
         subst (λ (fs : List Frame). Live fs (cells live')) (sym (ap (λ (x : M). x.frames) h.after))
         (subst (λ (k : ℕ). Live (enter P e (continuation_at k) (parse p.variadic p.count args s).args h.handler ∷ h.below) (cells live')) (used_is h l) f);
     objects = λ P m m' h l.

@@ -5,7 +5,7 @@ ghost use Rattle.std.specs.Prelude.{◌≡◌, ◌+◌, ◌≤◌, ◌<◌};
 ghost use Rattle.cells.specs.Cells.{room, cells};
 ghost use Rattle.captures.specs.Entered.{Enterable, Enters, LuciaEnterable, LuciaEnters, CallbackEnterable, CallbackEnters, Capturable, Captures, Catchable, CapturesError};
 
-use cells::Cell;
+use cells::{Cell, Tag};
 use moves::Running;
 use plan::{Counts, Error, Params};
 
@@ -23,7 +23,7 @@ fn enter(
     requires { Enterable base j p (room args.now) list live.old }
     ensures { Enters base j e k p list (cells args.now) live.old live.new }
 {
-    if cells::tag(live, base) == 64 {
+    if cells::tag(live, base) == Tag::FrameLucia as u32 {
         enter_lucia(live, base, j, e, k, args, p, list);
     } else {
         enter_callback(live, base, e, k, args, p, list);
@@ -100,7 +100,7 @@ pub fn capture(
     objects::new_object(
         store,
         c.store,
-        130,
+        Tag::ObjectContinuation as u32,
         (c.frames - 1 - i) as u32,
         live,
         above,
@@ -108,11 +108,7 @@ pub fn capture(
     );
     let list = c.store + 1 + size;
     arguments::list_rest(store, list, args, p);
-    let k = Cell {
-        tag: 23,
-        number: c.store as u32,
-        payload: 0,
-    };
+    let k = Cell::new(Tag::Continuation, c.store as u32, 0);
     enter(live, starts[i] as usize, j, e, k, args, p, list);
 }
 
@@ -139,10 +135,7 @@ pub fn catch(
         i,
         j,
         values::thrown(x),
-        Params {
-            count: 1,
-            variadic: false,
-        },
+        Params::ONE,
         &one,
     );
 }

@@ -1,3 +1,4 @@
+pub mod Tags
 pub mod Le
 pub mod Cells
 pub mod CellsLaws

@@ -2,9 +2,14 @@
 // The bytes behind the last whole cell are neither read nor written.
 #![tactic(auto)]
 
-ghost use Rattle.std.specs.Prelude.{◌≡◌, ◌+◌, ◌≤◌, ◌<◌, length, get_or, set};
+ghost use Rattle.std.specs.Prelude.{◌≡◌, ◌+◌, ◌≤◌, ◌<◌, length, get_or, set, eqb};
 ghost use Rattle.cells.specs.Le.{le_at, put_at};
+ghost use Rattle.cells.specs.Tags.{tag_number, tagged};
 ghost use Rattle.cells.specs.Cells.{null, room, cells, Sound, Writes, set_number, set_payload};
+
+mod tags;
+
+pub use tags::{Tag, UnknownTag, ValueType};
 
 // A tag of 4 bytes, a number of 4 and a payload of 8, in this order.
 #[derive(Clone, Copy)]
@@ -12,6 +17,32 @@ pub struct Cell {
     pub tag: u32,
     pub number: u32,
     pub payload: u64,
+}
+
+impl Cell {
+    // Null, which is also a cell that nothing was written to.
+    pub const NULL: Cell = Cell {
+        tag: 0,
+        number: 0,
+        payload: 0,
+    };
+
+    pub fn new(tag: Tag, number: u32, payload: u64) -> Cell
+        ensures { result ≡ tagged tag number payload }
+    {
+        Cell {
+            tag: tag as u32,
+            number,
+            payload,
+        }
+    }
+
+    // Has the cell this tag?
+    pub fn is(self, tag: Tag) -> bool
+        ensures { result ≡ eqb self.tag (tag_number tag) }
+    {
+        self.tag == tag as u32
+    }
 }
 
 // The number of the 2 bytes at `at`, the lowest first.

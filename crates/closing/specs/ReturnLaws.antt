@@ -1,7 +1,7 @@
 -- A return: the top value goes to the frame below, or to the host.
 use Rattle.std.specs.Prelude.{◌≡◌, List, [], ◌∷◌, ℕ, ◌+◌, ◌-◌, ◌<◌, ◌≤◌, length, get_or, Result, Err}
 use Rattle.std.proofs.Math.Path.{refl, ap, subst}
-use Rattle.std.proofs.Common.{sym, ◌∙◌, arith}
+use Rattle.std.proofs.Common.{sym, ◌∙◌, arith, pos_of_ne-zero}
 use Rattle.cells.specs.Cells.{null, room, cells, Sound}
 use Rattle.cells.specs.CellsLaws.{length_cells}
 use Rattle.cells.specs.declared.Cell.{Cell}
@@ -22,7 +22,7 @@ use Rattle.acts.specs.Acted.{ActedOn, as_done, Belowable, ActsBelow, Busy}
 use Rattle.closing.specs.Closed.{Returnable, Closes}
 use Rattle.closing.specs.Results.{used_done}
 use Rattle.acts.specs.Left.{top_live, top_room}
-use Rattle.acts.specs.ActedLaws.{some, bounded_settled}
+use Rattle.acts.specs.ActedLaws.{bounded_settled}
 use Rattle.acts.specs.BusyLaws.{acted_acts, ready_under, busy_place, busy_next, busy_stack, busy_gone, busy_held_under, busy_sizes, busy_small, busy_settles, busy_rests}
 use Rattle.refusals.specs.declared.Refusal.{Refusal}
 use Rattle.refusals.specs.declared.Refusal.TheVariants.{FewValues}
@@ -61,7 +61,7 @@ module _ {frames u : ℕ} {g : registers.Running} {state live store starts : Lis
     return_settles = busy_settles live store k.busy
 
     pub return_tops : (g.stack ≡ 0 → ⊥) → (0 < g.stack) × (end_of g ≤ room live)
-    return_tops h = (some g.stack h, (top_room live k.busy.inside.runs).0)
+    return_tops h = (pos_of_ne-zero h, (top_room live k.busy.inside.runs).0)
 
   module _ {v : Cell} {plan : Plan} (w : ReturnsValue (frames - 1) v plan) where
     pub return_below : Returnable frames u g state live store starts → Belowable plan (cells []) (record { frames = frames - 1; live = g.base; store = u }) g state live store starts
@@ -91,7 +91,7 @@ module _ {frames u : ℕ} {g : registers.Running} {state live store starts : Lis
           let F = b.frame.below in
           let m' = return_value v F (with_frames F m) in
           let n : next_action P m m.frames ≡ takes (returns v F) =
-          busy_next b o ∙ return_is P m _ x ∙ top_taken F b.frame.stack (omega (arith, some g.stack ne, busy_stack b)) ∙ ap (λ (c : Cell). takes (returns c F)) (sym (top.0 _ _ b.inside.runs)) in
+          busy_next b o ∙ return_is P m _ x ∙ top_taken F b.frame.stack (omega (arith, pos_of_ne-zero ne, busy_stack b)) ∙ ap (λ (c : Cell). takes (returns c F)) (sym (top.0 _ _ b.inside.runs)) in
           let y = a.acts P m (with_frames F m) m' (busy_gone b) (busy_held_under b) b.begins (ready_under (with_frames F m) (cells live) plan (top_live b.inside.runs)) (return_carries w b args) b.block in
           let q = subst (λ (s : Sizes). ActedOn s m m' r (cells state') (cells live') (cells store') starts') (sym (busy_sizes live store b)) y in
           acted_acts P z m (cells state') (cells live') (cells store') starts' r n refl (omega arith) q;

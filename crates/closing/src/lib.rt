@@ -11,6 +11,7 @@ use moves::Running;
 use plan::Counts;
 use refusals::Refusal;
 use steps::Closing;
+use values::Metamethod;
 
 // 36 `Call`: function and arguments are popped, and the frame stays under the new one.
 fn call(
@@ -36,7 +37,7 @@ fn call(
     let f = moves::top(live, g, n);
     let left = acts::left_of(g, n + 1);
     if !calls::callable(f) {
-        let error = values::meta_un_operator(0, values::type_of(f));
+        let error = values::meta_un_operator(Metamethod::Call as u32, values::type_of(f));
         let failed = acts::fail(
             program, state, live, store, starts, frames, used, g, left, error,
         );
@@ -83,7 +84,7 @@ fn tail_call(
     let f = moves::top(live, g, n);
     if !calls::callable(f) {
         let left = acts::left_of(g, n + 1);
-        let error = values::meta_un_operator(0, values::type_of(f));
+        let error = values::meta_un_operator(Metamethod::Call as u32, values::type_of(f));
         let thrown = acts::fail(
             program, state, live, store, starts, frames, used, g, left, error,
         );
@@ -192,7 +193,7 @@ pub fn effect_callback(
     let left = Counts {
         frames: under,
         live: base,
-        store: c.store,
+        ..c
     };
     acts::below(plan, &args[..16 * n], state, live, store, starts, left, g).map(Acted::Done)
 }

@@ -6,7 +6,7 @@ ghost use Rattle.cells.specs.Le.{le_at};
 ghost use Rattle.image.specs.Program.{part};
 ghost use Rattle.image.specs.Effects.{name, same, same_effect};
 
-use image::Constant;
+use image::{Constant, EffectKind};
 
 // The body of a constant, as a part of the image: the text of a Str, the bytes of a Bytes.
 pub fn content(image: &[u8], c: Constant) -> &[u8]
@@ -38,21 +38,20 @@ pub fn same(a: &[u8], b: &[u8]) -> bool
 }
 
 // Are two effects, by their bodies, equal?
+#[tactic(auto, unfolding(image::specs::Kinds::effect_kind_of, image::specs::Effects::same_effect, image::specs::Records::both))]
 pub fn same_effect(a: &[u8], b: &[u8]) -> bool
     ensures { result ≡ same_effect a.now b.now }
 {
-    let number = program::le16(a, 0);
-    if number != program::le16(b, 0) {
+    let number = effect_number(a);
+    if number != effect_number(b) {
         return false;
     }
-    if number <= 2 {
-        return true;
+    match EffectKind::try_from(number) {
+        Ok(EffectKind::Yield | EffectKind::Error | EffectKind::Panic) => true,
+        Ok(EffectKind::Declared) | Err(_) => {
+            program::le16(a, 2) == program::le16(b, 2)
+                && program::le16(a, 4) == program::le16(b, 4)
+                && same(effect_name(a), effect_name(b))
+        }
     }
-    if program::le16(a, 2) != program::le16(b, 2) {
-        return false;
-    }
-    if program::le16(a, 4) != program::le16(b, 4) {
-        return false;
-    }
-    same(effect_name(a), effect_name(b))
 }

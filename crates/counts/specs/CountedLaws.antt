@@ -1,7 +1,7 @@
 -- What each plan leaves is what its numbers say, and the reads that find the numbers have their needs.
-use Rattle.std.specs.Prelude.{◌≡◌, refl, Bool, true, false, ℕ, ◌+◌, ◌-◌, ◌<◌, ◌≤◌, take}
+use Rattle.std.specs.Prelude.{◌≡◌, refl, ℕ, ◌+◌, ◌-◌, ◌<◌, ◌≤◌}
 use Rattle.std.proofs.Math.Path.{sym, ap}
-use Rattle.std.proofs.Common.{subst, ◌∙◌, length-drop, length-take-le}
+use Rattle.std.proofs.Common.{subst, ◌∙◌}
 use mathlib.Core.List.{List, [], ◌∷◌, ◌++◌, reverse, append_assoc}
 use native.Mathlib.Omega.{arith}
 use Rattle.std.proofs.Math.ListN.{length, get_or, drop, length-append}
@@ -9,56 +9,28 @@ use Rattle.std.proofs.lemmas.List.{length-reverse, length-replicate}
 use Rattle.std.proofs.Math.Seq.{get_or_at, drop_at}
 use Rattle.cells.specs.Cells.{null}
 use Rattle.cells.specs.declared.Cell.{Cell}
-use Rattle.image.specs.Records.{if?}
 use Rattle.machine.specs.Values.{Program, cell, continuation_at}
-use Rattle.machine.specs.Machine.{Frame, lucia, host, effect_callback, Object, list, continuation, Result, M, frame_cost, frames_cost, cost, used, result_cost, with_frames, with_result, here, object_at, parse, enter, give, put_back, receive}
+use Rattle.machine.specs.Machine.{Frame, lucia, host, effect_callback, Object, continuation, Result, M, frame_cost, frames_cost, cost, used, result_cost, with_frames, with_result, here, object_at, parse, enter, give, put_back, receive}
 use Rattle.machine.proofs.Store.{used_append}
 use Rattle.machine.proofs.FormRules.{object_at_lem}
+use Rattle.machine.proofs.Refusals.{frames_few}
 use Rattle.memory.specs.Layout.{Written, written, frame_cells, flat, object_cells}
 use Rattle.memory.specs.View.{frames_size}
 use Rattle.memory.specs.Lists.{written_cost}
-use Rattle.memory.proofs.Lists.{cost_written, length_flat, flat_append, cost_append}
+use Rattle.memory.proofs.Lists.{cost_written, length_flat, cost_append}
 use Rattle.moves.specs.Runs.{Top, end_of, top_length}
-use Rattle.moves.specs.Frames.{Live, live_stands, kept_stack, kept_in, kept_opened, give_written, receive_written, new_written}
+use Rattle.moves.specs.Frames.{Live, live_stands, kept_stack, kept_in, kept_opened, give_written, receive_written, new_written, live_under}
 use Rattle.moves.specs.Objects.{There, last_of, object_there, sizes}
 use Rattle.moves.specs.Starts.{lower}
 use Rattle.plan.specs.Rest.{counts_of, Begins, Held}
-use Rattle.plan.specs.Plans.{taken_count, listed_cells, Enough, Started, Resumed, Handled, Received}
+use Rattle.plan.specs.Plans.{taken_count, listed_cells, Started, Resumed, Handled, Received}
 use Rattle.plan.specs.declared.Counts.{Counts}
 use Rattle.plan.specs.declared.Params.{Params}
 use Rattle.plan.specs.declared.Start.{Start}
+use Rattle.plan.proofs.ParsedLaws.{parsed_count, parsed_used}
 use Rattle.counts.specs.Counted.{started_counts, resumed_counts, handled_counts, received_counts, Resumable, Handleable, Receivable}
 
--- ---- Parsed arguments
-pub length_parsed : (p : Params) (args : List Cell) (s : List Object) → Enough p (length args) → length (parse p.variadic p.count args s).args ≡ taken_count p (length args)
-unfolding parse taken_count
-length_parsed p args s h = by p.variadic h
-  where
-    by : (b : Bool) → (b ≡ true → p.count ≤ length args) → length (parse b p.count args s).args ≡ if? b (p.count + 1) (length args)
-    by true h = length-append (take p.count args) _ ∙ omega (arith, length-take-le p.count args (h refl))
-    by false h = refl
-
-pub used_parsed : (p : Params) (args : List Cell) (s : List Object) → used (parse p.variadic p.count args s).store ≡ used s + listed_cells p (length args)
-unfolding parse listed_cells used cost
-used_parsed p args s = by p.variadic
-  where
-    by : (b : Bool) → used (parse b p.count args s).store ≡ used s + if? b (1 + (length args - p.count)) 0
-    by true = used_append s (list (drop p.count args) ∷ []) ∙ omega (arith, length-drop p.count args)
-    by false = omega arith
-
 -- ---- Costs
-frame_some : (f : Frame) → 6 ≤ frame_cost f
-unfolding frame_cost
-frame_some (lucia c p l s hs) = omega arith
-frame_some (host n w s hs) = omega arith
-frame_some (effect_callback e s hs) = omega arith
-
--- there are no more frames than cells
-frames_few : (F : List Frame) → length F ≤ frames_cost F
-unfolding frames_cost
-frames_few [] = omega arith
-frames_few (f ∷ F) = omega (arith, frames_few F, frame_some f)
-
 -- what a frame keeps of its stack as it gets a value
 abbrev kept_of : Frame → Written
 kept_of f = kept_stack (written f)
@@ -85,10 +57,6 @@ begins_at {F} starts above rest b q some =
     let k : length F - length rest ≡ length above = omega arith in
     let l : lower (length rest) F ≡ rest = (λ j. drop (k j) (q j)) ∙ drop_at above rest _ refl in
     b (length rest) (omega arith) ∙ ap (λ (fs : List Frame). length (flat fs)) l
-
--- frames under others lie where they are
-live_under : (above rest : List Frame) {L : List Cell} → Live (above ++ rest) L → Live rest L
-live_under above rest o = record { free = flat above ++ o.free; is = o.is ∙ ap (λ (l : List Cell). l ++ o.free) (flat_append above rest) ∙ append_assoc (flat rest) (flat above) o.free }
 
 -- ---- The last frame of a continuation
 module _ {top : Frame} {under : List Frame} {h : ℕ} {S : List Cell} (t : There (continuation (top ∷ under)) h S) where
@@ -156,8 +124,8 @@ module _ {P : Program} {m : M} {c : Counts} {L S : List Cell} {starts : List ℕ
       let A : List Cell = (parse p.variadic p.count args m.store).args in
       let a : c.frames + 1 ≡ length (s.frame ∷ m.frames) = omega (arith, frames_is) in
       let b : c.live + 6 + f.locals + taken_count p (length args) ≡ frames_cost (s.frame ∷ m.frames) + result_cost m.result =
-      omega (arith, live_is_lem, no_result, new_cost f.locals A s.frame s.is, length_parsed p args m.store s.enough) in
-      let d : c.store + listed_cells p (length args) ≡ used (parse p.variadic p.count args m.store).store = omega (arith, store_is_lem, used_parsed p args m.store) in
+      omega (arith, live_is_lem, no_result, new_cost f.locals A s.frame s.is, parsed_count p args m.store s.enough) in
+      let d : c.store + listed_cells p (length args) ≡ used (parse p.variadic p.count args m.store).store = omega (arith, store_is_lem, parsed_used p args m.store) in
       (λ j. record { frames = a j; live = b j; store = d j }) ∙ sym (ap (λ (x : M). counts_of x) s.after)
 
   -- frames of a continuation: it has some
@@ -219,9 +187,9 @@ module _ {P : Program} {m : M} {c : Counts} {L S : List Cell} {starts : List ℕ
         let f : Frame = enter P e (continuation_at (used m.store)) A s.handler in
         let a : i + 1 ≡ length (f ∷ s.below) = omega (arith, s.at) in
         let b : get_or starts i 0 + 6 + (kept_in L (get_or starts i 0)).locals + (kept_in L (get_or starts i 0)).stack + 2 + taken_count p (length args) ≡ frames_cost (f ∷ s.below) + result_cost m.result =
-        omega (arith, base_is, no_result, enter_cost P e (continuation_at (used m.store)) A s.handler, length_parsed p args k s.enough, length_flat s.below, g.counts.locals, g.counts.stack) in
+        omega (arith, base_is, no_result, enter_cost P e (continuation_at (used m.store)) A s.handler, parsed_count p args k s.enough, length_flat s.below, g.counts.locals, g.counts.stack) in
         let d : c.store + 1 + (c.live - get_or starts (i + 1) 0) + listed_cells p (length args) ≡ used (parse p.variadic p.count args k).store =
-        omega (arith, store_is_lem, above_is, cost_is, length_flat (s.handler ∷ s.below), used_parsed p args k, used_append m.store (continuation s.above ∷ [])) in
+        omega (arith, store_is_lem, above_is, cost_is, length_flat (s.handler ∷ s.below), parsed_used p args k, used_append m.store (continuation s.above ∷ [])) in
         (λ j. record { frames = a j; live = b j; store = d j }) ∙ sym (ap (λ (x : M). counts_of x) s.after)
 
     pub handled_reads : c.frames ≤ length starts → c.live < 4294967296 → c.store < 4294967296 → length L < 4294967296 → length args < 4294967296 → Handleable c i (length args) L starts

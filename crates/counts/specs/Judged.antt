@@ -1,6 +1,7 @@
 -- The machine judges what a plan leaves as `refusal_by` does.
 use Rattle.std.specs.Prelude.{◌≡◌, Bool, true, false, ℕ, ◌+◌, ◌<◌, ◌≤◌, length, ltb, eqb}
 use Rattle.std.proofs.Math.Path.{refl}
+use Rattle.std.proofs.Common.{arith, ltb-false}
 use borrow.Author.Tests.{lt-ltb, le-ltb}
 use Rattle.image.specs.Records.{if?}
 use Rattle.machine.specs.Machine.{M, frames_cost, used, result_cost}
@@ -42,3 +43,14 @@ module _ (z : Sizes) (c : Counts) where
       pub refuses_none : c.store ≤ z.store → 0 ≡ refusal_by z c
       unfolding refusal_by
       refuses_none a = rw (le-ltb 256 c.frames f, le-ltb z.live c.live l, le-ltb z.store c.store a) refl
+
+-- there is room where nothing is refused
+pub granted : (z : Sizes) (c : Counts) → refusal_by z c ≡ 0 → (c.frames ≤ 256) × (c.live ≤ z.live) × (c.store ≤ z.store)
+unfolding refusal_by
+granted z c = by _ _ _ refl refl refl
+  where
+    by : (x y w : Bool) → ltb 256 c.frames ≡ x → ltb z.live c.live ≡ y → ltb z.store c.store ≡ w → ◌≡◌ {A = ℕ} (if? x 13 (if? y 14 (if? w 15 0))) 0 → (c.frames ≤ 256) × (c.live ≤ z.live) × (c.store ≤ z.store)
+    by true y w a b d e = absurd (omega (arith, e))
+    by false true w a b d e = absurd (omega (arith, e))
+    by false false true a b d e = absurd (omega (arith, e))
+    by false false false a b d e = (ltb-false _ _ a, ltb-false _ _ b, ltb-false _ _ d)

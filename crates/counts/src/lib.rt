@@ -85,9 +85,8 @@ pub fn received(c: Counts, live: &[u8], starts: &[u32]) -> Counts
     let base = starts[c.frames - 1] as usize;
     let g = moves::kept(live, base);
     Counts {
-        frames: c.frames,
         live: base + 6 + g.locals + g.stack + 1,
-        store: c.store,
+        ..c
     }
 }
 
@@ -107,21 +106,10 @@ pub fn counts_after(
         Plan::Starts(f, p) => started(c, f.locals as usize, p, n),
         Plan::Resumes(handle, _) => resumed(c, store, handle),
         Plan::Handles(i, _, _, p) => handled(c, live, starts, i, p, n),
-        Plan::Catches(i, _, _) => handled(
-            c,
-            live,
-            starts,
-            i,
-            Params {
-                count: 1,
-                variadic: false,
-            },
-            1,
-        ),
+        Plan::Catches(i, _, _) => handled(c, live, starts, i, Params::ONE, 1),
         Plan::Unhandled(_) => Counts {
-            frames: c.frames,
             live: c.live + n,
-            store: c.store,
+            ..c
         },
         Plan::Fails(_) => c,
         Plan::Receives(_) => received(c, live, starts),

@@ -4,7 +4,7 @@ use mathlib.Core.List.{List}
 use Rattle.std.proofs.Math.ListN.{length}
 use Rattle.image.specs.Records.{Answer, refused, accepted}
 use Rattle.machine.specs.Values.{Program}
-use Rattle.machine.specs.Calls.{Sizes, does, World, world, world_after, Call, call_of}
+use Rattle.machine.specs.Calls.{Sizes, World, world_after, Call, call_of}
 use Rattle.demands.specs.Called.{Memory, sizes, entered, Exported, Answered, Allows, call_for, DoesAs}
 
 abbrev pub Lengths : Memory → Memory → Type 0

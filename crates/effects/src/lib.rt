@@ -6,7 +6,7 @@ ghost use Rattle.machine.specs.Values.{constant_of, equal_effects, effect_params
 ghost use Rattle.scan.specs.Tables.{program_of};
 ghost use Rattle.plan.specs.Plans.{params_of};
 
-use cells::Cell;
+use cells::{Cell, Tag};
 use image::Constant;
 use plan::Params;
 
@@ -15,31 +15,21 @@ pub fn constant_of(program: &lookups::Program, v: Cell) -> Constant
     ensures { result ≡ constant_of (program_of program.now) v }
 {
     let code = v.number as usize;
-    if code >= program.codes {
-        return Constant {
-            kind: 0,
-            place: 0,
-            size: 0,
-        };
+    if code < program.codes && v.payload < program.constant_count(code) as u64 {
+        return program.constant(code, v.payload as usize);
     }
-    if v.payload >= program.constant_count(code) as u64 {
-        return Constant {
-            kind: 0,
-            place: 0,
-            size: 0,
-        };
-    }
-    program.constant(code, v.payload as usize)
+    Constant::NONE
 }
 
 // Are two effects equal?
+#[tactic(auto, unfolding(machine::specs::Values::equal_effects, image::specs::Records::both))]
 pub fn equal_effects(program: &lookups::Program, a: Cell, b: Cell) -> bool
     ensures { result ≡ equal_effects (program_of program.now) a b }
 {
-    if a.tag == 8 {
-        return b.tag == 8 && a.number == b.number;
+    if a.is(Tag::BuiltinEffect) {
+        return b.is(Tag::BuiltinEffect) && a.number == b.number;
     }
-    if b.tag != 24 {
+    if !b.is(Tag::Effect) {
         return false;
     }
     let x = constant_of(program, a);
@@ -51,14 +41,12 @@ pub fn equal_effects(program: &lookups::Program, a: Cell, b: Cell) -> bool
 }
 
 // The parameters of an effect: a builtin has one.
+#[tactic(auto, unfolding(machine::specs::Values::effect_params))]
 pub fn effect_params(program: &lookups::Program, e: Cell) -> Params
     ensures { result ≡ params_of (effect_params (program_of program.now) e) }
 {
-    if e.tag == 8 {
-        return Params {
-            count: 1,
-            variadic: false,
-        };
+    if e.is(Tag::BuiltinEffect) {
+        return Params::ONE;
     }
     let c = constant_of(program, e);
     let body = contents::content(program.image, c);
@@ -69,11 +57,9 @@ pub fn effect_params(program: &lookups::Program, e: Cell) -> Params
 }
 
 // effect.rs: the expected effect has one parameter more, and the same variadic mark.
+#[tactic(auto, using(crate::specs::Effects::marks_alike), unfolding(machine::specs::Values::match_effect_handler, image::specs::Records::both))]
 pub fn match_effect_handler(p: Params, expected: Params) -> bool
     ensures { result ≡ match_effect_handler (record { count = p.count; variadic = p.variadic }) (record { count = expected.count; variadic = expected.variadic }) }
 {
-    if p.count as usize + 1 != expected.count as usize {
-        return false;
-    }
-    p.variadic == expected.variadic
+    usize::from(p.count) + 1 == usize::from(expected.count) && p.variadic == expected.variadic
 }

@@ -11,9 +11,9 @@ use Rattle.image.specs.Records.{if?, Answer, refused, accepted, then}
 use Rattle.image.specs.Program.{Code}
 use Rattle.image.specs.Image.{parse}
 use Rattle.layout.specs.Reads.{Low}
-use Rattle.layout.specs.ImageLaws.{some}
 use Rattle.layout.specs.declared.Sizes.{Sizes}
 use Rattle.refusals.specs.Refusals.{number}
+use Rattle.refusals.proofs.NumberLaws.{number_not_zero}
 use Rattle.refusals.specs.declared.Refusal.{Refusal}
 use Rattle.refusals.specs.declared.Refusal.TheVariants.{BadLoan}
 use Rattle.machine.specs.Values.{Program}
@@ -74,7 +74,15 @@ module _ {image : List ℕ} (state live store : List ℕ) {r : Result Sizes Refu
     held_to p = entry_is ∙ ap (then go) (sym (rw e at w.shows)) ∙ rw (← p)
 
     pub enters_not : {x : Refusal} → number x ≡ held_answer P state live store → Enters image state live store (Err x) rows constants inner
-    enters_not {x} p = record { does = sym (held_to p ∙ rw (ne_eqb (number x) 0 (some x))); low = omega arith }
+    enters_not {x} p = record { does = sym (held_to p ∙ rw (ne_eqb (number x) 0 (number_not_zero x))); low = omega arith }
 
     pub enters_accepted : 0 ≡ held_answer P state live store → Enters image state live store (Ok h) rows constants inner
     enters_accepted p = record { does = sym (held_to p); low = reads_low w e }
+
+-- what is entered fits the tables
+pub enters_low : {image state live store rows constants inner : List ℕ} {r : Result Sizes Refusal} {h : Sizes} → Enters image state live store r rows constants inner → r ≡ Ok h → Low h.codes h.constants h.inner
+enters_low w e = rw e at w.low
+
+-- the program of tables that are filled in front
+pub filled_is : {i image : List ℕ} {p codes : List Code} → i ≡ image → p ≡ codes → ◌≡◌ {A = Program} (record { image = i; codes = p }) (record { image = image; codes = codes })
+filled_is e f = λ j. record { image = e j; codes = f j }

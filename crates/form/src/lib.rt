@@ -6,14 +6,30 @@ ghost use Rattle.std.specs.Prelude.{◌≡◌, ◌+◌, ◌*◌, ◌≤◌, ◌<
 ghost use Rattle.cells.specs.Cells.{null, room, cells};
 ghost use Rattle.memory.specs.View.{frames_size};
 ghost use Rattle.memory.specs.Tests.{top_kind, turn_fits, closure_fits, list_fits, continuation_fits, object_fits, store_fits, live_fits, error_fits, result_fits, in_form};
-ghost use Rattle.scan.specs.Tables.{program_in, program_of};
-ghost use Rattle.reader.specs.Reads.{Fits};
+ghost use Rattle.scan.specs.Tables.{program_in, program_of, cells_of};
+ghost use Rattle.results.specs.Results.{kind_number};
+ghost use Rattle.layout.specs.Reads.{Low};
+ghost use Rattle.reader.specs.Reads.{Reads};
 ghost use Rattle.form.specs.Entry.{held_answer, Enters};
+ghost use Rattle.image.specs.Layout.{flat};
 ghost use Rattle.refusals.specs.Refusals.{number_of};
 
-use cells::Cell;
+use cells::{Cell, Tag};
+use image::Row;
 use layout::Sizes;
 use refusals::Refusal;
+use results::{ErrorKind, ResultKind};
+use scan::Objects;
+
+// The first cell of a state block has this tag where something is loaded.
+pub const LOADED: u32 = 1;
+
+// How many numbers opcodes, types and metamethods have: the fields of an error stay below them.
+const OPCODES: u32 = 52;
+
+const TYPES: u32 = 10;
+
+const METAMETHODS: u32 = 24;
 
 // The closure at `at`: its code, and as many upvalues as that captures.
 #[tactic(auto, using(crate::specs::Objects::known, crate::specs::Objects::captures), unfolding(image::specs::Records::both, memory::specs::Tests::closure_fits))]
@@ -24,7 +40,7 @@ fn closure_fits(program: &lookups::Program, store: &[u8], at: usize, size: usize
     let code = cells::number(store, at) as usize;
     code < program.codes
         && size == program.capture_count(code)
-        && scan::values_fit(program, store, at, store, at + 1, size)
+        && scan::values_fit(program, &Objects { store, below: at }, store, at + 1, size)
 }
 
 // The list at `at`.
@@ -35,7 +51,7 @@ fn list_fits(program: &lookups::Program, store: &[u8], at: usize, size: usize) -
 {
     cells::number(store, at) == 0
         && size <= 4096
-        && scan::values_fit(program, store, at, store, at + 1, size)
+        && scan::values_fit(program, &Objects { store, below: at }, store, at + 1, size)
 }
 
 // The continuation at `at`: its frames have exactly its cells.
@@ -49,7 +65,12 @@ fn continuation_fits(program: &lookups::Program, store: &[u8], at: usize, size: 
     let to = 16 * (at + 1 + size);
     frames >= 1
         && frames <= 256
-        && scan::frames_fit(program, store, at, &store[from..to], frames) == Some(size)
+        && scan::frames_fit(
+            program,
+            &Objects { store, below: at },
+            &store[from..to],
+            frames,
+        ) == Some(size)
 }
 
 // The object at `at`, which ends by `end`.
@@ -62,13 +83,15 @@ fn object_fits(program: &lookups::Program, store: &[u8], end: usize, at: usize) 
     if size > end - at - 1 {
         return false;
     }
+    // Not a `match` by names: LLVM then takes the loops over values for rare ones, and they are slower.
     let kind = cells::tag(store, at);
-    match kind {
-        128 => closure_fits(program, store, at, size),
-        129 => list_fits(program, store, at, size),
-        130 => continuation_fits(program, store, at, size),
-        _ => false,
+    if kind == Tag::ObjectClosure as u32 {
+        return closure_fits(program, store, at, size);
     }
+    if kind == Tag::ObjectList as u32 {
+        return list_fits(program, store, at, size);
+    }
+    kind == Tag::ObjectContinuation as u32 && continuation_fits(program, store, at, size)
 }
 
 // The store: objects, one behind the other, in exactly its used cells.
@@ -92,106 +115,84 @@ fn store_fits(program: &lookups::Program, store: &[u8], used: usize) -> bool
 #[tactic(auto, using(crate::specs::States::live_end, crate::specs::States::fit, crate::specs::States::ends, crate::specs::States::behind), unfolding(image::specs::Records::both, memory::specs::Tests::live_fits))]
 fn live_fits(
     program: &lookups::Program,
-    store: &[u8],
-    used: usize,
+    objects: &Objects,
     live: &[u8],
     count: usize,
     args: usize,
 ) -> bool
-    requires { used ≤ room store.now }
-    ensures { result ≡ live_fits (program_of program.now) (cells store.now) used count args (cells live.now) }
+    ensures { result ≡ live_fits (program_of program.now) (cells_of objects.now) objects.now.below count args (cells live.now) }
 {
     if count > 256 {
         return false;
     }
-    let Some(end) = scan::frames_fit(program, store, used, live, count) else {
+    let Some(end) = scan::frames_fit(program, objects, live, count) else {
         return false;
     };
-    args <= cells::room(live) - end && scan::values_fit(program, store, used, live, end, args)
+    args <= cells::room(live) - end && scan::values_fit(program, objects, live, end, args)
 }
 
 // The fields of an error, by its kind.
 #[tactic(auto, unfolding(image::specs::Records::both, memory::specs::Tests::error_fits))]
 fn error_fits(
     program: &lookups::Program,
-    store: &[u8],
-    used: usize,
-    kind: u64,
+    objects: &Objects,
+    kind: ErrorKind,
     v: Cell,
     second: u32,
 ) -> bool
-    requires { used ≤ room store.now }
-    ensures { result ≡ error_fits (program_of program.now) (cells store.now) used kind v second }
+    ensures { result ≡ error_fits (program_of program.now) (cells_of objects.now) objects.now.below (kind_number kind) v second }
 {
     let tag = v.tag;
     let number = v.number;
-    let payload = v.payload;
+    let typed = v.payload < u64::from(TYPES);
     match kind {
-        3 => tag <= 32 && number <= 1 && payload <= 4096 && second == 0,
-        4 => tag < 52 && payload < 10 && second == 0,
-        5 => tag < 52 && payload < 10 && second < 10,
-        6 => tag < 24 && number == 0 && payload < 10 && second == 0,
-        7 => tag < 24 && number == 0 && payload < 10 && second < 10,
-        8 => scan::is_null(v) && second == 0,
-        9..=10 => scan::value_fits(program, store, used, v) && second == 0,
-        _ => false,
+        ErrorKind::CallArguments => { tag <= 32 && number <= 1 && v.payload <= 4096 && second == 0 }
+        ErrorKind::UnOperator => tag < OPCODES && typed && second == 0,
+        ErrorKind::BinOperator => tag < OPCODES && typed && second < TYPES,
+        ErrorKind::MetaUnOperator => tag < METAMETHODS && number == 0 && typed && second == 0,
+        ErrorKind::MetaBinOperator => tag < METAMETHODS && number == 0 && typed && second < TYPES,
+        ErrorKind::ZeroDivisor => scan::is_null(v) && second == 0,
+        ErrorKind::Error | ErrorKind::Panic => {
+            scan::value_fits(program, objects, v) && second == 0
+        }
     }
 }
 
 // The result, by its kind: its value, and the cell of its second type and its arguments' count.
-#[tactic(auto, unfolding(image::specs::Records::both, memory::specs::Tests::result_fits))]
+#[tactic(auto, unfolding(image::specs::Records::both, memory::specs::Tests::result_fits, memory::specs::Tests::error_fits, results::specs::Results::result_kind_of))]
 fn result_fits(
     program: &lookups::Program,
-    store: &[u8],
-    used: usize,
+    objects: &Objects,
     kind: u64,
     v: Cell,
     more: Cell,
 ) -> bool
-    requires { used ≤ room store.now }
-    ensures { result ≡ result_fits (program_of program.now) (cells store.now) used kind v more }
+    ensures { result ≡ result_fits (program_of program.now) (cells_of objects.now) objects.now.below kind v more }
 {
     if more.number != 0 {
         return false;
     }
     let second = more.tag;
-    if kind == 2 {
-        return scan::effect_fits(program, store, used, v) && second == 0;
-    }
-    if more.payload != 0 {
-        return false;
-    }
-    match kind {
-        0 => scan::is_null(v) && second == 0,
-        1 => scan::value_fits(program, store, used, v) && second == 0,
-        _ => error_fits(program, store, used, kind, v, second),
+    let alone = more.payload == 0;
+    match ResultKind::try_from(kind) {
+        Ok(ResultKind::None) => alone && scan::is_null(v) && second == 0,
+        Ok(ResultKind::Value) => alone && scan::value_fits(program, objects, v) && second == 0,
+        Ok(ResultKind::Effect) => scan::effect_fits(program, objects, v) && second == 0,
+        Ok(ResultKind::Error(error)) => alone && error_fits(program, objects, error, v, second),
+        Err(_) => false,
     }
 }
 
 // A wait and a slice beside the kind of the frame that runs next.
-#[tactic(auto, unfolding(image::specs::Records::both, memory::specs::Tests::turn_fits))]
+#[tactic(auto, unfolding(image::specs::Records::both, memory::specs::Tests::turn_fits, cells::specs::Tags::tag_of))]
 fn turn_fits(top: Option<u32>, wait: u32, slice: u32) -> bool
     ensures { result ≡ turn_fits (unwrap_or top 0) wait slice }
 {
-    match top {
-        Some(64) => wait == 0 && slice <= 64,
-        Some(65) => wait <= 1 && slice == 64,
+    match top.map(Tag::try_from) {
+        Some(Ok(Tag::FrameLucia)) => wait == 0 && slice <= 64,
+        Some(Ok(Tag::FrameCallback)) => wait <= 1 && slice == 64,
         _ => wait == 0 && slice == 64,
     }
-}
-
-// How many cells so many frames have.
-fn frames_size(x: &[u8], n: usize) -> usize
-    requires { frames_size n (cells x.now) ≤ room x.now }
-    ensures { result ≡ frames_size n (cells x.now) }
-{
-    let mut at = 0;
-    for _ in 0..n {
-        let head = cells::get(x, at);
-        let stack = cells::payload(x, at + 2) as usize;
-        at += 6 + head.number as usize + 2 * (head.payload as usize) + stack;
-    }
-    at
 }
 
 // The kind of the frame that runs next: the top frame's where there is no result.
@@ -205,7 +206,7 @@ fn top_kind(live: &[u8], count: usize, res: u64) -> Option<u32>
     if res != 0 {
         return None;
     }
-    let top = frames_size(live, count - 1);
+    let top = placing::last_frame(live, 0, count);
     Some(cells::tag(live, top))
 }
 
@@ -223,11 +224,14 @@ fn in_form(program: &lookups::Program, state: &[u8], live: &[u8], store: &[u8]) 
     let count = head.number as usize;
     let args = more.payload as usize;
     let kind = turn.payload;
-    store_fits(program, store, used)
-        && live_fits(program, store, used, live, count, args)
-        && result_fits(program, store, used, kind, value, more)
+    if !store_fits(program, store, used) {
+        return false;
+    }
+    let objects = Objects { store, below: used };
+    live_fits(program, &objects, live, count, args)
+        && result_fits(program, &objects, kind, value, more)
         && turn_fits(top_kind(live, count, kind), turn.number, turn.tag)
-        && scan::values_fit(program, store, used, state, 4, 512)
+        && scan::values_fit(program, &objects, state, 4, 512)
 }
 
 // The front of a loan, up to so many cells: "a longer loan is used that far".
@@ -244,7 +248,7 @@ fn held(program: &lookups::Program, state: &[u8], live: &[u8], store: &[u8]) -> 
     requires { length state.now ≡ 8256 }
     ensures { number_of result ≡ held_answer (program_of program.now) state.now live.now store.now }
 {
-    if cells::tag(state, 0) != 1 {
+    if cells::tag(state, 0) != LOADED {
         return Err(Refusal::NotLoaded);
     }
     if in_form(program, state, lent(live, 4096), lent(store, 65536)) {
@@ -253,45 +257,80 @@ fn held(program: &lookups::Program, state: &[u8], live: &[u8], store: &[u8]) -> 
     Err(Refusal::NotInForm)
 }
 
-// The program of tables of which only the front is filled: so many codes, constants and numbers of inner codes.
-pub fn filled<'a>(
-    image: &'a [u8],
-    rows: &'a [u32],
-    constants: &'a [u32],
-    inner: &'a [u32],
-    sizes: Sizes,
-) -> lookups::Program<'a>
-    requires { Fits sizes.codes sizes.constants sizes.inner rows.now constants.now inner.now }
-    ensures { program_of result ≡ program_in image.now (take (10 * sizes.codes) rows.now) (take sizes.constants constants.now) (take sizes.inner inner.now) sizes.codes }
-{
-    let end = 10 * sizes.codes;
-    lookups::made(
-        image,
-        &rows[..end],
-        &constants[..sizes.constants],
-        &inner[..sizes.inner],
-        sizes.codes,
-    )
-}
-
 // What every call but a load begins with: the image is read into the tables, and memory is in form.
 pub fn enter(
     image: &[u8],
     state: &[u8],
     live: &[u8],
     store: &[u8],
-    rows: &mut [u32],
+    rows: &mut [Row],
     constants: &mut [u32],
     inner: &mut [u32],
 ) -> Result<Sizes, Refusal>
-    requires { (2560 ≤ length rows.old) × (10923 ≤ length constants.old) × (256 ≤ length inner.old) }
-    ensures { Enters image.now state.now live.now store.now result rows.new constants.new inner.new }
+    requires { (256 ≤ length rows.old) × (10923 ≤ length constants.old) × (256 ≤ length inner.old) }
+    ensures { Enters image.now state.now live.now store.now result (flat rows.new) constants.new inner.new }
 {
     if state.len() != 8256 {
         return Err(Refusal::BadLoan);
     }
     let sizes = reader::read_image(image, rows, constants, inner)?;
-    let program = filled(image, rows, constants, inner, sizes);
+    let program = reader::filled(image, rows, constants, inner, sizes);
     held(&program, state, live, store)?;
     Ok(sizes)
+}
+
+// The reader's tables, which have room for each image that it accepts.
+#[derive(Drop)]
+pub struct Tables {
+    rows: [Row; 256],
+    constants: [u32; 10923],
+    inner: [u32; 256],
+}
+
+impl Tables {
+    pub fn new() -> Tables {
+        Tables {
+            rows: [Row::NONE; 256],
+            constants: [0; 10923],
+            inner: [0; 256],
+        }
+    }
+
+    // An image is read into these tables.
+    pub fn read(&mut self, image: &[u8]) -> Result<Sizes, Refusal>
+        ensures { Reads image.now result (flat self.new.rows) self.new.constants self.new.inner }
+    {
+        let inner = &mut self.inner;
+        reader::read_image(image, &mut self.rows, &mut self.constants, inner)
+    }
+
+    // What a call begins with: the image is read into these tables, and memory is in form.
+    pub fn enter(
+        &mut self,
+        image: &[u8],
+        state: &[u8],
+        live: &[u8],
+        store: &[u8],
+    ) -> Result<Sizes, Refusal>
+        ensures { Enters image.now state.now live.now store.now result (flat self.new.rows) self.new.constants self.new.inner }
+    {
+        enter(
+            image,
+            state,
+            live,
+            store,
+            &mut self.rows,
+            &mut self.constants,
+            &mut self.inner,
+        )
+    }
+
+    // The program that their fronts hold.
+    #[tactic(auto, using(image::proofs::RowLaws::rows_long))]
+    pub fn program<'a>(&'a self, image: &'a [u8], sizes: Sizes) -> lookups::Program<'a>
+        requires { Low sizes.codes sizes.constants sizes.inner }
+        ensures { program_of result ≡ program_in image.now (take (10 * sizes.codes) (flat self.now.rows)) (take sizes.constants self.now.constants) (take sizes.inner self.now.inner) sizes.codes }
+    {
+        reader::filled(image, &self.rows, &self.constants, &self.inner, sizes)
+    }
 }

@@ -9,6 +9,7 @@ use Rattle.machine.specs.Calls.{closing, failing, run}
 use Rattle.moves.specs.Runs.{Settles, end_of}
 use Rattle.moves.specs.declared.Running as registers
 use Rattle.plan.specs.Rest.{Same, Appends}
+use Rattle.plan.proofs.RestLaws.{same_refl}
 use Rattle.plan.proofs.Appended.{appends_refl}
 use Rattle.plan.specs.declared.Counts.{Counts}
 use Rattle.plan.specs.declared.Error.{Error}
@@ -33,9 +34,6 @@ use Rattle.groups.specs.FinishLaws.{counts_at, busy_at, room_same, finish_paused
 use Rattle.groups.specs.declared.Group.{Group}
 use Rattle.refusals.specs.declared.Refusal.{Refusal}
 
-same_refl : (a : List ℕ) → Same a a
-same_refl a = record { rest = refl; len = refl }
-
 settles_same : {g : registers.Running} {a b : List ℕ} → Settles g a b → Same a b
 settles_same s = record { rest = s.rest; len = s.len }
 
@@ -43,7 +41,7 @@ settled : (state store starts : List ℕ) {g : registers.Running} {live live' : 
 settled state store starts s = record { same_state = same_refl state; same_live = settles_same s; same_store = same_refl store; table = refl }
 
 -- the group says how much of the store is used then
-used_at : {u k : ℕ} (r : Group) {a b : List ℕ} → r.counts.store ≡ k → Appends u k a b → Appends u r.counts.store a b
+used_at : {u k : ℕ} (r : Group) {a b : List ℕ} → r.turn.counts.store ≡ k → Appends u k a b → Appends u r.turn.counts.store a b
 used_at {u} r {a} {b} e x = subst (λ (i : ℕ). Appends u i a b) (sym e) x
 
 -- the counts as the code puts them together
@@ -60,7 +58,7 @@ module _ {P : Program} {frames n : ℕ} {s : Slice} {fuel : Fuel} {r : Group} (s
         let y = subst (λ (i : End). Ended P z t left m handle code s i (cells state) (cells live) (cells store)) e x in
         rw (q, counted_is s.g frames s.used j) (finish_paused fuel s a low (settles_same w) y.0 y.1 w);
     bounded = settled state store starts w;
-    appends = used_at r (ap (λ (x : Group). x.counts.store) q) (appends_refl s.used store);
+    appends = used_at r (ap (λ (x : Group). x.turn.counts.store) q) (appends_refl s.used store);
   }
 
   pub finishes_spent : s.end ≡ Spent → r ≡ charged_group fuel 0 s.ticks (counted frames n s.used) → Finishes P frames s fuel r state live store starts state live' store starts
@@ -69,7 +67,7 @@ module _ {P : Program} {frames n : ℕ} {s : Slice} {fuel : Fuel} {r : Group} (s
         let y = subst (λ (i : End). Ended P z t left m handle code s i (cells state) (cells live) (cells store)) e x in
         rw (q, counted_is s.g frames s.used j) (finish_spent fuel s a low (settles_same w) y w);
     bounded = settled state store starts w;
-    appends = used_at r (ap (λ (x : Group). x.counts.store) q ∙ ap (λ (x : Counts). x.store) (charged_counts fuel 0 s.ticks (counted frames n s.used))) (appends_refl s.used store);
+    appends = used_at r (ap (λ (x : Group). x.turn.counts.store) q ∙ ap (λ (x : Counts). x.store) (charged_counts fuel 0 s.ticks (counted frames n s.used))) (appends_refl s.used store);
   }
 
   pub finishes_refused : {o : Refusal} → s.end ≡ Refused o → r ≡ stood (stand.Refused o) fuel s.ticks s.left (counted frames n s.used) → Finishes P frames s fuel r state live store starts state live' store starts
@@ -78,7 +76,7 @@ module _ {P : Program} {frames n : ℕ} {s : Slice} {fuel : Fuel} {r : Group} (s
         let y = subst (λ (i : End). Ended P z t left m handle code s i (cells state) (cells live) (cells store)) e x in
         rw (q, counted_is s.g frames s.used j) (finish_refused fuel s a low (settles_same w) y.0 y.1 y.2 w);
     bounded = settled state store starts w;
-    appends = used_at r (ap (λ (x : Group). x.counts.store) q) (appends_refl s.used store);
+    appends = used_at r (ap (λ (x : Group). x.turn.counts.store) q) (appends_refl s.used store);
   }
 
 module _ {P : Program} {frames n : ℕ} {s : Slice} {fuel : Fuel} {r : Group} {state live store starts state' live' store' starts' : List ℕ} (i : n ≡ end_of s.g) where
@@ -93,7 +91,7 @@ module _ {P : Program} {frames n : ℕ} {s : Slice} {fuel : Fuel} {r : Group} {s
         rw (q, k) (grouped_acted v.machine s.ticks s.left (v.follows fuel) v.less y.1 o.accepted o.small q'.fits (at_ready v.at) low o.low (room_same w.bounded.same_live q'.room)
         (room_same w.bounded.same_store q'.room_store) (w.bounded.table ∙ o.table) failing 0 (as_failed d) (λ p after j. failing_charges (run P z (s.ticks - 1)) fuel s.left after j) (counted_is s.g frames s.used i ∙ finish_counts o v) (w.acts z v.machine (finish_busy o v) y.2));
     bounded = w.bounded;
-    appends = used_at r (ap (λ (x : Group). x.counts.store) q ∙ ap (λ (x : Result Acted Refusal). (acted_group x fuel 0 s.ticks s.left (counted frames n s.used)).counts.store) k ∙ acted_uses (as_failed d) fuel 0 s.ticks s.left (counted frames n s.used)) (used_failed d w.appends);
+    appends = used_at r (ap (λ (x : Group). x.turn.counts.store) q ∙ ap (λ (x : Result Acted Refusal). (acted_group x fuel 0 s.ticks s.left (counted frames n s.used)).turn.counts.store) k ∙ acted_uses (as_failed d) fuel 0 s.ticks s.left (counted frames n s.used)) (used_failed d w.appends);
   }
 
   pub finishes_closes : {j : Closing} {x : ℕ} {a : Result Acted Refusal} → s.end ≡ Closes j x → closed.Closes P (closing_number j) frames s.used s.g x a state live store starts state' live' store' starts' → r ≡ acted_group a fuel s.left s.ticks s.left (counted frames n s.used)
@@ -108,7 +106,7 @@ module _ {P : Program} {frames n : ℕ} {s : Slice} {fuel : Fuel} {r : Group} {s
         rw q (grouped_acted v.machine s.ticks s.left (v.follows fuel) v.less y.1 o.accepted o.small q'.fits (at_ready v.at) low o.low (room_same w.bounded.same_live q'.room)
         (room_same w.bounded.same_store q'.room_store) (w.bounded.table ∙ o.table) closing s.left a (λ p after h. closing_charges (run P z (s.ticks - 1)) fuel s.left after h) (counted_is s.g frames s.used i ∙ finish_counts o v) (w.acts z v.machine (finish_busy o v) op));
     bounded = w.bounded;
-    appends = used_at r (ap (λ (x : Group). x.counts.store) q ∙ acted_uses a fuel s.left s.ticks s.left (counted frames n s.used)) w.appends;
+    appends = used_at r (ap (λ (x : Group). x.turn.counts.store) q ∙ acted_uses a fuel s.left s.ticks s.left (counted frames n s.used)) w.appends;
   }
     where
       by : (j : Closing) {n : ℕ} → ClosingNumber j n → n ≡ closing_number j

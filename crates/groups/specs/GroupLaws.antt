@@ -11,7 +11,8 @@ use Rattle.machine.specs.Machine.{M}
 use Rattle.machine.specs.Calls.{Sizes, world, nothing, ends, run, alone}
 use Rattle.moves.specs.Runs.{opened}
 use Rattle.moves.specs.declared.Running as registers
-use Rattle.plan.specs.Rest.{Same, Appends}
+use Rattle.plan.specs.Rest.{Appends}
+use Rattle.plan.proofs.RestLaws.{same_refl, same_join}
 use Rattle.plan.proofs.Appended.{appends_refl, appends_same, appends_two}
 use Rattle.plan.specs.declared.Counts.{Counts}
 use Rattle.slices.specs.Follows.{Follows, follows_none, follows_on}
@@ -26,20 +27,14 @@ use Rattle.groups.specs.declared.Stand.TheVariants as stand
 use Rattle.groups.specs.Grouped.{code_of, stood, acted_group, rest_of, Came, Groups, LuciaGroups, Finishes, Ran}
 use Rattle.groups.specs.GroupedLaws.{acted_uses, done_ends, wait_ends, pause_ends, grouped_end, grouped_acted, alone_charges}
 use Rattle.groups.specs.FinishLaws.{room_same}
-use Rattle.groups.specs.TopLaws.{ResultKind, count_is, empty_done, result_done, next_top, host_waits, other_ready, callback_next, lucia_next, at_open}
+use Rattle.groups.specs.TopLaws.{HasResult, count_is, empty_done, result_done, next_top, host_waits, other_ready, callback_next, lucia_next, at_open}
 use Rattle.groups.specs.declared.Group.{Group}
-
-same_refl : (a : List ℕ) → Same a a
-same_refl a = record { rest = refl; len = refl }
-
-same_both : {a b c : List ℕ} → Same a b → Same b c → Same a c
-same_both s t = record { rest = t.rest ∙ s.rest; len = t.len ∙ s.len }
 
 pub bounded_none : (state live store starts : List ℕ) → Bounded state live store starts state live store starts
 bounded_none state live store starts = record { same_state = same_refl state; same_live = same_refl live; same_store = same_refl store; table = refl }
 
 pub bounded_both : {a b c d a' b' c' d' a'' b'' c'' d'' : List ℕ} → Bounded a b c d a' b' c' d' → Bounded a' b' c' d' a'' b'' c'' d'' → Bounded a b c d a'' b'' c'' d''
-bounded_both s t = record { same_state = same_both s.same_state t.same_state; same_live = same_both s.same_live t.same_live; same_store = same_both s.same_store t.same_store; table = t.table ∙ s.table }
+bounded_both s t = record { same_state = same_join s.same_state t.same_state; same_live = same_join s.same_live t.same_live; same_store = same_join s.same_store t.same_store; table = t.table ∙ s.table }
 
 -- ---- A slice of the Lucia frame on top, and what follows it
 pub lucia_groups : {P : Program} {c : Counts} {fuel : Fuel} {t left base handle code : ℕ} {g : registers.Running} {s : Slice} {r : Group} {state live store starts a b d state' live' store' starts' : List ℕ}
@@ -65,16 +60,16 @@ module _ {P : Program} {c : Counts} {fuel : Fuel} {t left : ℕ} {r : Group} {st
         let e : t - t ≡ 0 = omega arith in
         rw q (grouped_end s m some x (omega arith) low (rw (e, w, ← h z m x) (follows_none (run P z t fuel left m))));
     bounded = bounded_none state live store starts;
-    appends = subst (λ (x : Group). Appends c.store x.counts.store store store) (sym q) (appends_refl c.store store);
+    appends = subst (λ (x : Group). Appends c.store x.turn.counts.store store store) (sym q) (appends_refl c.store store);
   }
 
   pub group_empty : c.frames ≡ 0 → r ≡ stood stand.Done fuel t left c → Groups P c fuel t left r state live store starts state live store starts
   group_empty e q = at_once stand.Done false (λ h. omega (arith, h)) refl q (λ z m x. done_ends P z fuel left m t (empty_done x e))
 
-  pub group_result : {k : ℕ} → ResultKind (cells state) k → (k ≡ 0 → ⊥) → r ≡ stood stand.Done fuel t left c → Groups P c fuel t left r state live store starts state live store starts
+  pub group_result : {k : Bool} → HasResult (cells state) k → k ≡ true → r ≡ stood stand.Done fuel t left c → Groups P c fuel t left r state live store starts state live store starts
   group_result h n q = at_once stand.Done false (λ h. omega (arith, h)) refl q (λ z m x. done_ends P z fuel left m t (result_done x h n))
 
-  module _ {k base tag : ℕ} (n : c.frames ≡ 0 → ⊥) (h : ResultKind (cells state) k) (e : k ≡ 0) (b : base ≡ get_or starts (c.frames - 1) 0) (a : tag ≡ (get_or (cells live) base null).tag) where
+  module _ {k : Bool} {base tag : ℕ} (n : c.frames ≡ 0 → ⊥) (h : HasResult (cells state) k) (e : k ≡ false) (b : base ≡ get_or starts (c.frames - 1) 0) (a : tag ≡ (get_or (cells live) base null).tag) where
     pub group_waits : {f : Fuel} → tag ≡ 65 → f ≡ consume fuel (pos 8) → r ≡ stood stand.Host f t left c → Groups P c fuel t left r state live store starts state live store starts
     group_waits w y q = at_once stand.Host true (λ h. omega (arith, h)) refl q (λ z m x. wait_ends P z fuel left m t (host_waits x (next_top x n h e b) (sym a ∙ w)) ∙ ap (λ (f : Fuel). ends 103 nothing f (world m true left)) (sym y))
 
@@ -90,7 +85,7 @@ module _ {P : Program} {c : Counts} {fuel : Fuel} {t left : ℕ} {r : Group} {st
           rw q (grouped_acted m t left (rw j (follows_none (run P z t fuel left m))) (omega arith) lt x.accepted x.small x.fits (other_ready x u (λ i. w (a ∙ i))) low x.low (room_same p.bounded.same_live x.room)
           (room_same p.bounded.same_store x.room_store) (p.bounded.table ∙ x.table) alone 8 o (λ i after v. alone_charges (run P z (t - 1)) fuel left after v) x.rests.counts (p.acts z m x (callback_next x u (sym a ∙ y))));
       bounded = p.bounded;
-      appends = subst (λ (k : ℕ). Appends c.store k store store') (sym (ap (λ (x : Group). x.counts.store) q ∙ acted_uses o fuel 8 t left c)) p.appends;
+      appends = subst (λ (k : ℕ). Appends c.store k store store') (sym (ap (λ (x : Group). x.turn.counts.store) q ∙ acted_uses o fuel 8 t left c)) p.appends;
     }
 
     pub group_lucia : {state' live' store' starts' : List ℕ} → (tag ≡ 65 → ⊥) → (tag ≡ 66 → ⊥) → LuciaGroups P c fuel t left r state live store starts state' live' store' starts' → Groups P c fuel t left r state live store starts state' live' store' starts'
@@ -109,11 +104,11 @@ module _ {P : Program} {z : Sizes} {t : ℕ} {fuel : Fuel} {left : ℕ} {m : M} 
 
   -- one group more
   pub came_more : {r r' : Group} {state live store starts state' live' store' starts' : List ℕ} → Came P z t fuel left m r (cells state) (cells live) (cells store) starts → code_of r.stand ≡ 0
-      → Groups P r.counts r.fuel r.ticks r.left r' state live store starts state' live' store' starts' → Came P z t fuel left m r' (cells state') (cells live') (cells store') starts'
+      → Groups P r.turn.counts r.turn.fuel r.turn.ticks r.turn.left r' state live store starts state' live' store' starts' → Came P z t fuel left m r' (cells state') (cells live') (cells store') starts'
   unfolding rest_of
   came_more {r} {r'} g e h =
       let n = h.acts z g.machine g.resting g.low in
-      let f : Follows (t - r.ticks) (run P z t fuel left m) (run P z r.ticks r.fuel r.left g.machine) = rw e at g.follows in
+      let f : Follows (t - r.turn.ticks) (run P z t fuel left m) (run P z r.turn.ticks r.turn.fuel r.turn.left g.machine) = rw e at g.follows in
       record {
         machine = n.machine;
         resting = n.resting;

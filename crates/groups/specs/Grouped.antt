@@ -34,7 +34,7 @@ code_of stand.Host = 103
 code_of (stand.Refused r) = number r
 
 abbrev pub stood : Stand → Fuel → ℕ → ℕ → Counts → Group
-stood s fuel ticks left c = record { stand = s; fuel = fuel; ticks = ticks; left = left; counts = c }
+stood s fuel ticks left c = record { stand = s; turn = record { fuel = fuel; ticks = ticks; left = left; counts = c } }
 
 unfoldable pub charged_group : Fuel → ℕ → ℕ → Counts → Group
 charged_group fuel cost ticks c =
@@ -48,24 +48,24 @@ acted_group (Ok (Failed after)) fuel cost ticks left c = charged_group fuel 0 (t
 
 -- what is left of the run: it goes on from the machine m, or ends
 unfoldable pub rest_of : Program → Sizes → Group → M → Trace
-rest_of P z r m = if? (eqb (code_of r.stand) 0) (run P z r.ticks r.fuel r.left m) (ends (code_of r.stand) nothing r.fuel (world m (eqb (code_of r.stand) 103) r.left))
+rest_of P z r m = if? (eqb (code_of r.stand) 0) (run P z r.turn.ticks r.turn.fuel r.turn.left m) (ends (code_of r.stand) nothing r.turn.fuel (world m (eqb (code_of r.stand) 103) r.turn.left))
 
 -- the run of t ticks from m has come to where r says, and memory holds its machine at rest
 pub record Grouped (P : Program) (z : Sizes) (t : ℕ) (fuel : Fuel) (left : ℕ) (m : M) (r : Group) (B L S : List Cell) (starts : List ℕ) : Type 0 where
   pub machine : M
-  pub resting : Resting P z machine r.counts B L S starts
-  pub less : r.ticks ≤ t
-  pub falls : code_of r.stand ≡ 0 → r.ticks < t
-  pub low : r.left ≤ 64
-  pub follows : Follows (t - r.ticks) (run P z t fuel left m) (rest_of P z r machine)
+  pub resting : Resting P z machine r.turn.counts B L S starts
+  pub less : r.turn.ticks ≤ t
+  pub falls : code_of r.stand ≡ 0 → r.turn.ticks < t
+  pub low : r.turn.left ≤ 64
+  pub follows : Follows (t - r.turn.ticks) (run P z t fuel left m) (rest_of P z r machine)
 
 -- the same after any number of groups, none too
 pub record Came (P : Program) (z : Sizes) (t : ℕ) (fuel : Fuel) (left : ℕ) (m : M) (r : Group) (B L S : List Cell) (starts : List ℕ) : Type 0 where
   pub machine : M
-  pub resting : Resting P z machine r.counts B L S starts
-  pub less : r.ticks ≤ t
-  pub low : r.left ≤ 64
-  pub follows : Follows (t - r.ticks) (run P z t fuel left m) (rest_of P z r machine)
+  pub resting : Resting P z machine r.turn.counts B L S starts
+  pub less : r.turn.ticks ≤ t
+  pub low : r.turn.left ≤ 64
+  pub follows : Follows (t - r.turn.ticks) (run P z t fuel left m) (rest_of P z r machine)
 
 -- some machine rests
 pub record Groupable (P : Program) (c : Counts) (left : ℕ) (state live store starts args : List ℕ) : Type 0 where
@@ -101,13 +101,13 @@ pub record LuciaGroupable (P : Program) (c : Counts) (left : ℕ) (state live st
 pub record Groups (P : Program) (c : Counts) (fuel : Fuel) (t left : ℕ) (r : Group) (state live store starts state' live' store' starts' : List ℕ) : Type 0 where
   pub acts : (z : Sizes) (m : M) → Resting P z m c (cells state) (cells live) (cells store) starts → left ≤ 64 → Grouped P z t fuel left m r (cells state') (cells live') (cells store') starts'
   pub bounded : Bounded state live store starts state' live' store' starts'
-  pub appends : Appends c.store r.counts.store store store'
+  pub appends : Appends c.store r.turn.counts.store store store'
 
 -- the same of one that runs a Lucia frame
 pub record LuciaGroups (P : Program) (c : Counts) (fuel : Fuel) (t left : ℕ) (r : Group) (state live store starts state' live' store' starts' : List ℕ) : Type 0 where
   pub acts : (z : Sizes) (m : M) → Resting P z m c (cells state) (cells live) (cells store) starts → LuciaTop m → left ≤ 64 → Grouped P z t fuel left m r (cells state') (cells live') (cells store') starts'
   pub bounded : Bounded state live store starts state' live' store' starts'
-  pub appends : Appends c.store r.counts.store store store'
+  pub appends : Appends c.store r.turn.counts.store store store'
 
 -- ---- What follows a slice of t ticks that began at m
 -- some slice has ended so
@@ -128,17 +128,17 @@ pub record Finishes (P : Program) (frames : ℕ) (s : Slice) (fuel : Fuel) (r : 
   pub acts : (z : Sizes) (t left : ℕ) (m : M) (handle code : ℕ) → Ended P z t left m handle code s s.end (cells state) (cells live) (cells store) → Around P z frames (cells live) (cells store) starts m → s.left ≤ 64
       → Grouped P z t fuel left m r (cells state') (cells live') (cells store') starts'
   pub bounded : Bounded state live store starts state' live' store' starts'
-  pub appends : Appends s.used r.counts.store store store'
+  pub appends : Appends s.used r.turn.counts.store store store'
 
 -- ---- A run: its answer, steps, fuel and world are the definition's
 pub record Ran (P : Program) (z : Sizes) (t : ℕ) (fuel : Fuel) (left : ℕ) (m : M) (r : Group) (B L S : List Cell) (starts : List ℕ) : Type 0 where
   pub machine : M
-  pub resting : Resting P z machine r.counts B L S starts
-  pub less : r.ticks ≤ t
+  pub resting : Resting P z machine r.turn.counts B L S starts
+  pub less : r.turn.ticks ≤ t
   pub over : code_of r.stand ≡ 0 → ⊥
-  pub follows : Follows (t - r.ticks) (run P z t fuel left m) (ends (code_of r.stand) nothing r.fuel (world machine (eqb (code_of r.stand) 103) r.left))
+  pub follows : Follows (t - r.turn.ticks) (run P z t fuel left m) (ends (code_of r.stand) nothing r.turn.fuel (world machine (eqb (code_of r.stand) 103) r.turn.left))
 
 pub record Runs (P : Program) (c : Counts) (fuel : Fuel) (t left : ℕ) (r : Group) (state live store starts state' live' store' starts' : List ℕ) : Type 0 where
   pub acts : (z : Sizes) (m : M) → Resting P z m c (cells state) (cells live) (cells store) starts → left ≤ 64 → Ran P z t fuel left m r (cells state') (cells live') (cells store') starts'
   pub bounded : Bounded state live store starts state' live' store' starts'
-  pub appends : Appends c.store r.counts.store store store'
+  pub appends : Appends c.store r.turn.counts.store store store'

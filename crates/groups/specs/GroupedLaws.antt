@@ -28,15 +28,15 @@ use Rattle.groups.specs.declared.Stand.TheVariants as stand
 use Rattle.groups.specs.Grouped.{code_of, stood, charged_group, acted_group, rest_of, Grouped}
 
 -- ---- What a group leaves of the store is what its step leaves
-pub charged_counts : (fuel : Fuel) (cost ticks : ℕ) (c : Counts) → (charged_group fuel cost ticks c).counts ≡ c
+pub charged_counts : (fuel : Fuel) (cost ticks : ℕ) (c : Counts) → (charged_group fuel cost ticks c).turn.counts ≡ c
 unfolding charged_group
 charged_counts fuel cost ticks c = by (should_continue (consume (consume fuel (pos cost)) (pos 4)))
   where
-    by : (b : Bool) → (if? b (stood stand.GoesOn (consume (consume fuel (pos cost)) (pos 4)) ticks 64 c) (stood stand.OutOfFuel (consume (consume fuel (pos cost)) (pos 4)) ticks 64 c)).counts ≡ c
+    by : (b : Bool) → (if? b (stood stand.GoesOn (consume (consume fuel (pos cost)) (pos 4)) ticks 64 c) (stood stand.OutOfFuel (consume (consume fuel (pos cost)) (pos 4)) ticks 64 c)).turn.counts ≡ c
     by true = refl
     by false = refl
 
-pub acted_uses : (a : Result Acted refusals.Refusal) (fuel : Fuel) (cost ticks left : ℕ) (c : Counts) → (acted_group a fuel cost ticks left c).counts.store ≡ used_then c.store a
+pub acted_uses : (a : Result Acted refusals.Refusal) (fuel : Fuel) (cost ticks left : ℕ) (c : Counts) → (acted_group a fuel cost ticks left c).turn.counts.store ≡ used_then c.store a
 acted_uses (Err n) fuel cost ticks left c = refl
 acted_uses (Ok (Done after)) fuel cost ticks left c = ap (λ (x : Counts). x.store) (charged_counts fuel cost (ticks - 1) after)
 acted_uses (Ok (Failed after)) fuel cost ticks left c = ap (λ (x : Counts). x.store) (charged_counts fuel 0 (ticks - 1) after)

@@ -1,5 +1,5 @@
 -- What groups require of the functions that they call.
-use Rattle.std.specs.Prelude.{◌≡◌, refl, List, ℕ, ◌+◌, ◌-◌, ◌<◌, ◌≤◌, length, get_or}
+use Rattle.std.specs.Prelude.{◌≡◌, refl, List, Bool, false, ℕ, ◌+◌, ◌-◌, ◌<◌, ◌≤◌, length, get_or}
 use Rattle.std.proofs.Math.Path.{sym, subst}
 use Rattle.std.proofs.Common.{ap, ◌∙◌, arith, length-append}
 use Rattle.cells.specs.Cells.{null, room, cells}
@@ -7,7 +7,7 @@ use Rattle.cells.specs.CellsLaws.{length_cells}
 use Rattle.cells.specs.declared.Cell.{Cell}
 use Rattle.image.specs.Fine.{Accepted}
 use Rattle.machine.specs.Values.{Program}
-use Rattle.machine.specs.Machine.{closure, M, Lookup, here}
+use Rattle.machine.specs.Machine.{closure, M}
 use Rattle.machine.specs.Opcodes.{Running, throws}
 use Rattle.machine.specs.Calls.{Sizes, handlers_left}
 use Rattle.machine.proofs.Formed.{all_map}
@@ -33,10 +33,7 @@ use Rattle.acts.specs.Acted.{Failable, Thrown}
 use Rattle.closing.specs.Closed.{closing_number, Closable, Callbackable}
 use Rattle.groups.specs.Grouped.{Groupable, LuciaGroupable, Finishable}
 use Rattle.groups.specs.FinishLaws.{busy_at, finish_busy}
-use Rattle.groups.specs.TopLaws.{ResultKind, count_is, next_top, top_fits, callback_next, lucia_next, at_open}
-
-same_code : {x : Lookup} {c d : ℕ} {us vs : List Cell} → x ≡ here (closure c us) → x ≡ here (closure d vs) → c ≡ d
-same_code h k = cc
+use Rattle.groups.specs.TopLaws.{HasResult, count_is, next_top, top_fits, callback_next, lucia_next, at_open}
 
 -- ---- A frame in registers
 module _ {P : Program} {z : Sizes} {m : M} {g : registers.Running} {handle code u : ℕ} {B L S : List Cell} (x : At P z m g handle code u B L S) where
@@ -118,7 +115,7 @@ module _ {P : Program} {frames : ℕ} {s : Slice} {state live store starts args 
 
 -- ---- A group
 module _ {P : Program} {c : Counts} {left : ℕ} {state live store starts args : List ℕ} (f : Groupable P c left state live store starts args) where
-  module _ {k base : ℕ} (n : c.frames ≡ 0 → ⊥) (h : ResultKind (cells state) k) (e : k ≡ 0) (b : base ≡ get_or starts (c.frames - 1) 0) where
+  module _ {k : Bool} {base : ℕ} (n : c.frames ≡ 0 → ⊥) (h : HasResult (cells state) k) (e : k ≡ false) (b : base ≡ get_or starts (c.frames - 1) 0) where
     pub group_base : base + 6 ≤ room live
     group_base = let x = next_top f.resting n h e b in omega (arith, top_fits f.resting x.frames b, length_cells live)
 

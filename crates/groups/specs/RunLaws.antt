@@ -38,18 +38,18 @@ module _ (fuel : Fuel) {f g : Fuel} (cost : ℕ) (le : cost ≤ 64) (a : f ≡ c
 
 -- ---- The loop: from where r₀ says the run has come to r
 pub record Looping (P : Program) (r₀ : Group) (state₀ live₀ store₀ starts₀ args₀ : List ℕ) (r : Group) (state live store starts args : List ℕ) : Type 0 where
-  pub more : (z : Sizes) (m : M) → Resting P z m r₀.counts (cells state₀) (cells live₀) (cells store₀) starts₀ → r₀.left ≤ 64 → Came P z r₀.ticks r₀.fuel r₀.left m r (cells state) (cells live) (cells store) starts
-  pub next : Groupable P r.counts r.left state live store starts args
+  pub more : (z : Sizes) (m : M) → Resting P z m r₀.turn.counts (cells state₀) (cells live₀) (cells store₀) starts₀ → r₀.turn.left ≤ 64 → Came P z r₀.turn.ticks r₀.turn.fuel r₀.turn.left m r (cells state) (cells live) (cells store) starts
+  pub next : Groupable P r.turn.counts r.turn.left state live store starts args
   pub bounded : Bounded state₀ live₀ store₀ starts₀ state live store starts
-  pub appends : Appends r₀.counts.store r.counts.store store₀ store
+  pub appends : Appends r₀.turn.counts.store r.turn.counts.store store₀ store
   pub values : length args ≡ length args₀
 
 -- what is left to do falls: a run that is over has none
 unfoldable pub to_do : Group → ℕ
-to_do r = if? (eqb (code_of r.stand) 0) (1 + r.ticks) 0
+to_do r = if? (eqb (code_of r.stand) 0) (1 + r.turn.ticks) 0
 
 grouped_next : {P : Program} {c : Counts} {fuel : Fuel} {t left : ℕ} {r : Group} {state live store starts args state' live' store' starts' args' : List ℕ} → Groupable P c left state live store starts args
-    → Groups P c fuel t left r state live store starts state' live' store' starts' → length args' ≡ length args → Groupable P r.counts r.left state' live' store' starts' args'
+    → Groups P c fuel t left r state live store starts state' live' store' starts' → length args' ≡ length args → Groupable P r.turn.counts r.turn.left state' live' store' starts' args'
 grouped_next {args = args} f g n =
     let x = g.acts f.sizes f.machine f.resting f.low in
     record { sizes = f.sizes; machine = x.machine; resting = x.resting; low = x.low; len = g.bounded.same_state.len ∙ f.len; values = omega (arith, n, f.values) }
@@ -58,7 +58,7 @@ pub looping_first : {P : Program} {c : Counts} {fuel : Fuel} {t left : ℕ} {r :
 looping_first {c = c} {state = state} {live} {store} {starts} f e = rw e (record { more = λ z m x low. came_none x low; next = f; bounded = bounded_none state live store starts; appends = appends_refl c.store store; values = refl })
 
 module _ {P : Program} {r₀ r r' : Group} {state₀ live₀ store₀ starts₀ args₀ state live store starts args state' live' store' starts' : List ℕ} (l : Looping P r₀ state₀ live₀ store₀ starts₀ args₀ r state live store starts args) (is : r.stand ≡ stand.GoesOn)
-    (g : Groups P r.counts r.fuel r.ticks r.left r' state live store starts state' live' store' starts') where
+    (g : Groups P r.turn.counts r.turn.fuel r.turn.ticks r.turn.left r' state live store starts state' live' store' starts') where
   on : code_of r.stand ≡ 0
   on = ap code_of is
 
@@ -77,7 +77,7 @@ module _ {P : Program} {r₀ r r' : Group} {state₀ live₀ store₀ starts₀ 
       let x = g.acts l.next.sizes l.next.machine l.next.resting l.next.low in
       by (eqb (code_of r'.stand) 0) refl x.falls
     where
-      by : (b : Bool) → eqb (code_of r'.stand) 0 ≡ b → (code_of r'.stand ≡ 0 → r'.ticks < r.ticks) → if? b (1 + r'.ticks) 0 < if? (eqb (code_of r.stand) 0) (1 + r.ticks) 0
+      by : (b : Bool) → eqb (code_of r'.stand) 0 ≡ b → (code_of r'.stand ≡ 0 → r'.turn.ticks < r.turn.ticks) → if? b (1 + r'.turn.ticks) 0 < if? (eqb (code_of r.stand) 0) (1 + r.turn.ticks) 0
       by true q h = rw on (let k = h (eqb-true (code_of r'.stand) 0 q) in omega arith)
       by false q h = rw on (omega arith)
 

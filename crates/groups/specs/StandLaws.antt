@@ -1,10 +1,7 @@
 -- Where a run stands, by its code.
-use Rattle.std.specs.Prelude.{◌≡◌, refl, ◌≤◌}
+use Rattle.std.specs.Prelude.{◌≡◌, refl}
 use Rattle.std.proofs.Common.{arith}
-use Rattle.refusals.specs.declared.Refusal.{Refusal}
-use Rattle.refusals.specs.declared.Refusal.TheVariants.{ImageSize, ImageStructure, ImageNumber, ImageCodes, BadValue, BadLoan, NotInForm, NotLoaded, OutOfTurn, FewValues, ManyFrames, LiveFull, StoreFull, ManyHandlers}
-use Rattle.refusals.specs.Refusals.{number}
-use Rattle.acts.specs.ActedLaws.{numbered}
+use Rattle.refusals.proofs.NumberLaws.{number_above, number_most}
 use Rattle.groups.specs.declared.Stand.{Stand}
 use Rattle.groups.specs.declared.Stand.TheVariants as stand
 use Rattle.groups.specs.Grouped.{code_of}
@@ -16,23 +13,7 @@ goes_on stand.Done e = absurd (omega (arith, e))
 goes_on stand.OutOfFuel e = absurd (omega (arith, e))
 goes_on stand.Paused e = absurd (omega (arith, e))
 goes_on stand.Host e = absurd (omega (arith, e))
-goes_on (stand.Refused o) e = absurd (omega (arith, numbered o, e))
-
-numbered_low : (r : Refusal) → number r ≤ 16
-numbered_low ImageSize = omega arith
-numbered_low ImageStructure = omega arith
-numbered_low ImageNumber = omega arith
-numbered_low ImageCodes = omega arith
-numbered_low BadValue = omega arith
-numbered_low BadLoan = omega arith
-numbered_low NotInForm = omega arith
-numbered_low NotLoaded = omega arith
-numbered_low OutOfTurn = omega arith
-numbered_low FewValues = omega arith
-numbered_low ManyFrames = omega arith
-numbered_low LiveFull = omega arith
-numbered_low StoreFull = omega arith
-numbered_low ManyHandlers = omega arith
+goes_on (stand.Refused o) e = absurd (omega (arith, number_above o, e))
 
 -- and only the host's turn the code 103
 pub waits_host : (s : Stand) → code_of s ≡ 103 → s ≡ stand.Host
@@ -41,4 +22,4 @@ waits_host stand.Done e = absurd (omega (arith, e))
 waits_host stand.OutOfFuel e = absurd (omega (arith, e))
 waits_host stand.Paused e = absurd (omega (arith, e))
 waits_host stand.Host e = refl
-waits_host (stand.Refused o) e = absurd (omega (arith, numbered_low o, e))
+waits_host (stand.Refused o) e = absurd (omega (arith, number_most o, e))

@@ -1,21 +1,23 @@
 -- The top frame of a machine at rest: where it begins, its kind, and a Lucia frame in registers.
-use Rattle.std.specs.Prelude.{◌≡◌, ℕ, ◌+◌, ◌-◌, ◌<◌, ◌≤◌, length, drop}
+use Rattle.std.specs.Prelude.{◌≡◌, Bool, true, false, not, eqb, ℕ, ◌+◌, ◌-◌, ◌<◌, ◌≤◌, length, drop}
 use Rattle.std.proofs.Math.Path.{refl, ap}
 use Rattle.std.proofs.Common.{sym, ◌∙◌, arith, length-append, get_or-append-add}
 use mathlib.Core.List.{List, [], ◌∷◌, ◌++◌, append_assoc}
 use Rattle.std.proofs.Math.ListN.{get_or}
 use Rattle.std.proofs.Math.Seq.{get_or_at}
+use borrow.Author.Tests.{eqb-true, eqb-false, not-true, not-false}
 use Rattle.cells.specs.Cells.{null}
 use Rattle.cells.specs.declared.Cell.{Cell}
-use Rattle.machine.specs.Values.{Program, code_of, Error, call_arguments, un_operator, bin_operator, meta_un_operator, meta_bin_operator, zero_divisor, lucia_error, lucia_panic}
+use Rattle.machine.specs.Values.{Program, code_of}
 use Rattle.machine.specs.Machine.{Frame, lucia, host, effect_callback, Result, running, returned, failed, unhandled, M, used}
 use Rattle.machine.specs.Calls.{Sizes, World, is_done, is_host, is_ready, turn_of}
-use Rattle.memory.specs.Layout.{written, frame_cells, flat, object_cells, error_shown, result_shown, state_cells}
+use Rattle.memory.specs.Layout.{written, frame_cells, flat, object_cells, result_shown, state_cells}
 use Rattle.moves.specs.Runs.{opened}
 use Rattle.moves.specs.Frames.{Live, live_runs}
 use Rattle.moves.specs.Objects.{object_there}
 use Rattle.moves.specs.declared.Running as registers
 use Rattle.plan.specs.declared.Counts.{Counts}
+use Rattle.plan.proofs.ErrorLaws.{shown_is}
 use Rattle.slices.specs.Sliced.{At}
 use Rattle.acts.specs.Acted.{Resting}
 use Rattle.closing.specs.Closed.{Callback}
@@ -55,22 +57,11 @@ module _ {P : Program} {z : Sizes} {m : M} {c : Counts} {B L S : List Cell} {sta
     top_fits e = omega (arith, e ∙ top_begins, ap length top_cells ∙ length-append (flat below) _, length-append (frame_cells top) ((result_shown m.result).args ++ r.rests.free))
 
 -- ---- What is next, by the kind of the result and of the top frame
-error_kind : (x : Error) → 3 ≤ (error_shown x).kind
-unfolding error_shown
-error_kind (call_arguments s u g) = omega arith
-error_kind (un_operator o x t) = omega arith
-error_kind (bin_operator o x t u) = omega arith
-error_kind (meta_un_operator n t) = omega arith
-error_kind (meta_bin_operator n t u) = omega arith
-error_kind zero_divisor = omega arith
-error_kind (lucia_error v) = omega arith
-error_kind (lucia_panic v) = omega arith
-
 result_none : (r : Result) → (result_shown r).kind ≡ 0 → r ≡ running
 unfolding result_shown
 result_none running e = refl
 result_none (returned v) e = absurd (omega (arith, e))
-result_none (failed x) e = absurd (omega (arith, e, error_kind x))
+result_none (failed x) e = absurd (omega (arith, e, (shown_is x).1))
 result_none (unhandled e args) q = absurd (omega (arith, q))
 
 result_some : (r : Result) (F : List Frame) → ((result_shown r).kind ≡ 0 → ⊥) → turn_of r F ≡ is_done
@@ -87,13 +78,13 @@ none_done (returned v) = refl
 none_done (failed x) = refl
 none_done (unhandled e args) = refl
 
--- the kind that the state block shows
-abbrev pub ResultKind : List Cell → ℕ → Type 0
-ResultKind B k = (w : World) → B ≡ state_cells w → k ≡ (result_shown w.machine.result).kind
+-- whether the state block shows a result
+abbrev pub HasResult : List Cell → Bool → Type 0
+HasResult B k = (w : World) → B ≡ state_cells w → k ≡ not (eqb (result_shown w.machine.result).kind 0)
 
 module _ {P : Program} {z : Sizes} {m : M} {c : Counts} {B L S : List Cell} {starts : List ℕ} (r : Resting P z m c B L S starts) where
-  kind_is : {k : ℕ} → ResultKind B k → k ≡ (result_shown m.result).kind
-  kind_is h = let b = r.rests.block in h b.stale b.is ∙ ap (λ (x : Result). (result_shown x).kind) b.result
+  has_is : {k : Bool} → HasResult B k → k ≡ not (eqb (result_shown m.result).kind 0)
+  has_is h = let b = r.rests.block in h b.stale b.is ∙ ap (λ (x : Result). not (eqb (result_shown x).kind 0)) b.result
 
   pub empty_done : c.frames ≡ 0 → turn_of m.result m.frames ≡ is_done
   empty_done e = by m.frames (sym (count_is r) ∙ e)
@@ -102,8 +93,8 @@ module _ {P : Program} {z : Sizes} {m : M} {c : Counts} {B L S : List Cell} {sta
       by [] q = none_done m.result
       by (f ∷ F) q = absurd (omega (arith, q))
 
-  pub result_done : {k : ℕ} → ResultKind B k → (k ≡ 0 → ⊥) → turn_of m.result m.frames ≡ is_done
-  result_done h n = result_some m.result m.frames (λ e. n (kind_is h ∙ e))
+  pub result_done : {k : Bool} → HasResult B k → k ≡ true → turn_of m.result m.frames ≡ is_done
+  result_done h t = result_some m.result m.frames (eqb-false _ 0 (not-true _ (sym (has_is h) ∙ t)))
 
   -- there is a frame, and no result
   pub record Next (base : ℕ) : Type 0 where
@@ -113,12 +104,12 @@ module _ {P : Program} {z : Sizes} {m : M} {c : Counts} {B L S : List Cell} {sta
     pub runs : m.result ≡ running
     pub kind : (get_or L base null).tag ≡ (written top).kind
 
-  pub next_top : {k base : ℕ} → (c.frames ≡ 0 → ⊥) → ResultKind B k → k ≡ 0 → base ≡ get_or starts (c.frames - 1) 0 → Next base
+  pub next_top : {k : Bool} {base : ℕ} → (c.frames ≡ 0 → ⊥) → HasResult B k → k ≡ false → base ≡ get_or starts (c.frames - 1) 0 → Next base
   next_top {base = base} n h e b = by m.frames refl
     where
       by : (F : List Frame) → m.frames ≡ F → Next base
       by [] q = absurd (n (count_is r ∙ ap length q))
-      by (top ∷ below) q = record { top = top; below = below; frames = q; runs = result_none m.result (sym (kind_is h) ∙ e); kind = top_kind_lem r q b }
+      by (top ∷ below) q = record { top = top; below = below; frames = q; runs = result_none m.result (eqb-true _ 0 (not-false _ (sym (has_is h) ∙ e))); kind = top_kind_lem r q b }
 
   module _ {base : ℕ} (x : Next base) where
     pub host_waits : (get_or L base null).tag ≡ 65 → turn_of m.result m.frames ≡ is_host

@@ -6,10 +6,12 @@ ghost use Rattle.scan.specs.Tables.{program_of};
 ghost use Rattle.groups.specs.Grouped.{code_of, stood, charged_group, acted_group, Groupable, LuciaGroupable, Groups, LuciaGroups, Finishable, Finishes, Runs};
 
 use acts::Acted;
+use cells::Tag;
 use fuel::Fuel;
 use plan::Counts;
 use refusals::Refusal;
 use slices::{End, Slice};
+use steps::Closure;
 
 // Where a run stands: it goes on, ends with an answer, or is refused.
 #[derive(Clone, Copy)]
@@ -38,56 +40,67 @@ impl Stand {
     }
 }
 
-// Where a run stands; fuel, ticks and slice that are left; what the machine has.
+// The fuel, the ticks and the slice that are left to a run, and what its machine has.
 #[derive(Clone, Copy)]
-pub struct Group {
-    pub stand: Stand,
+pub struct Turn {
     pub fuel: Fuel,
     pub ticks: u32,
     pub left: u32,
     pub counts: Counts,
 }
 
-fn stands(stand: Stand, fuel: Fuel, ticks: u32, left: u32, counts: Counts) -> Group
-    ensures { result ≡ stood stand fuel ticks left counts }
+#[derive(Clone, Copy)]
+pub struct Group {
+    pub stand: Stand,
+    pub turn: Turn,
+}
+
+fn stands(stand: Stand, turn: Turn) -> Group
+    ensures { result ≡ stood stand turn.fuel turn.ticks turn.left turn.counts }
 {
-    Group {
-        stand,
-        fuel,
-        ticks,
-        left,
-        counts,
-    }
+    Group { stand, turn }
 }
 
 // A charge, then 4, and the test of the fuel after them; the slice is over.
-fn charged(fuel: Fuel, cost: u32, ticks: u32, counts: Counts) -> Group
+fn charged(turn: Turn, cost: u32) -> Group
     requires { cost ≤ 64 }
-    ensures { result ≡ charged_group fuel cost ticks counts }
+    ensures { result ≡ charged_group turn.fuel cost turn.ticks turn.counts }
 {
-    let f = fuel.consume(cost as i32).consume(4);
-    if f.should_continue() {
-        return stands(Stand::GoesOn, f, ticks, 64, counts);
+    let fuel = turn.fuel.consume(cost as i32).consume(4);
+    let after = Turn {
+        fuel,
+        left: 64,
+        ..turn
+    };
+    if fuel.should_continue() {
+        return stands(Stand::GoesOn, after);
     }
-    stands(Stand::OutOfFuel, f, ticks, 64, counts)
+    stands(Stand::OutOfFuel, after)
 }
 
 // A step that closes its slice charges `cost`; one that threw its own error charges 4 only; a refused one takes no tick.
-fn acted(
-    a: Result<Acted, Refusal>,
-    fuel: Fuel,
-    cost: u32,
-    ticks: u32,
-    left: u32,
-    counts: Counts,
-) -> Group
-    requires { (cost ≤ 64) × (0 < ticks) }
-    ensures { result ≡ acted_group a fuel cost ticks left counts }
+fn acted(a: Result<Acted, Refusal>, turn: Turn, cost: u32) -> Group
+    requires { (cost ≤ 64) × (0 < turn.ticks) }
+    ensures { result ≡ acted_group a turn.fuel cost turn.ticks turn.left turn.counts }
 {
     match a {
-        Err(refusal) => stands(Stand::Refused(refusal), fuel, ticks, left, counts),
-        Ok(Acted::Done(after)) => charged(fuel, cost, ticks - 1, after),
-        Ok(Acted::Failed(after)) => charged(fuel, 0, ticks - 1, after),
+        Err(refusal) => stands(Stand::Refused(refusal), turn),
+        Ok(Acted::Done(counts)) => charged(
+            Turn {
+                ticks: turn.ticks - 1,
+                counts,
+                ..turn
+            },
+            cost,
+        ),
+        Ok(Acted::Failed(counts)) => charged(
+            Turn {
+                ticks: turn.ticks - 1,
+                counts,
+                ..turn
+            },
+            0,
+        ),
     }
 }
 
@@ -107,34 +120,39 @@ fn finish(
     ensures { Finishes (program_of program.now) frames s fuel result state.old live.old store.old starts.old state.new live.new store.new starts.new }
 {
     let g = s.g;
-    let counts = Counts {
-        frames,
-        live: moves::end(g),
-        store: s.used,
+    let turn = Turn {
+        fuel,
+        ticks: s.ticks,
+        left: s.left,
+        counts: Counts {
+            frames,
+            live: moves::end(g),
+            store: s.used,
+        },
     };
     let end = s.end;
     match end {
         End::Paused => {
             moves::settle(live, g);
-            stands(Stand::Paused, fuel, s.ticks, s.left, counts)
+            stands(Stand::Paused, turn)
         }
         End::Spent => {
             moves::settle(live, g);
-            charged(fuel, 0, s.ticks, counts)
+            charged(turn, 0)
         }
         End::Refused(refusal) => {
             moves::settle(live, g);
-            stands(Stand::Refused(refusal), fuel, s.ticks, s.left, counts)
+            stands(Stand::Refused(refusal), turn)
         }
         End::Throws(h, x) => {
             let thrown = acts::fail(program, state, live, store, starts, frames, s.used, g, h, x);
-            acted(thrown.map(Acted::Failed), fuel, 0, s.ticks, s.left, counts)
+            acted(thrown.map(Acted::Failed), turn, 0)
         }
         End::Closes(k, x) => {
             let a = closing::close(
                 k, program, state, live, store, starts, args, frames, s.used, g, x,
             );
-            acted(a, fuel, s.left, s.ticks, s.left, counts)
+            acted(a, turn, s.left)
         }
     }
 }
@@ -147,23 +165,40 @@ fn lucia_group(
     store: &mut [u8],
     starts: &mut [u32],
     args: &mut [u8],
-    fuel: Fuel,
-    ticks: u32,
-    left: u32,
-    c: Counts,
+    turn: Turn,
 ) -> Group
-    requires { LuciaGroupable (program_of program.now) c left state.old live.old store.old starts.old args.old × (0 < ticks) }
-    ensures { LuciaGroups (program_of program.now) c fuel ticks left result state.old live.old store.old starts.old state.new live.new store.new starts.new }
+    requires { LuciaGroupable (program_of program.now) turn.counts turn.left state.old live.old store.old starts.old args.old × (0 < turn.ticks) }
+    ensures { LuciaGroups (program_of program.now) turn.counts turn.fuel turn.ticks turn.left result state.old live.old store.old starts.old state.new live.new store.new starts.new }
 {
-    let last = c.frames - 1;
+    let counts = turn.counts;
+    let last = counts.frames - 1;
     let base = starts[last] as usize;
     let g = moves::open(live, base);
     let handle = cells::number(live, base + 1) as usize;
     let code = cells::number(store, handle) as usize;
+    let closure = Closure { handle, code };
     let s = slices::run_slice(
-        program, state, live, store, g, handle, code, c.store, left, ticks,
+        program,
+        state,
+        live,
+        store,
+        g,
+        closure,
+        counts.store,
+        turn.left,
+        turn.ticks,
     );
-    finish(program, state, live, store, starts, args, c.frames, s, fuel)
+    finish(
+        program,
+        state,
+        live,
+        store,
+        starts,
+        args,
+        counts.frames,
+        s,
+        turn.fuel,
+    )
 }
 
 // One slice, one effect callback or the opening of a wait, or nothing where the run is done or no tick is left.
@@ -174,36 +209,29 @@ pub fn run_group(
     store: &mut [u8],
     starts: &mut [u32],
     args: &mut [u8],
-    fuel: Fuel,
-    ticks: u32,
-    left: u32,
-    c: Counts,
+    turn: Turn,
 ) -> Group
-    requires { Groupable (program_of program.now) c left state.old live.old store.old starts.old args.old }
-    ensures { Groups (program_of program.now) c fuel ticks left result state.old live.old store.old starts.old state.new live.new store.new starts.new }
+    requires { Groupable (program_of program.now) turn.counts turn.left state.old live.old store.old starts.old args.old }
+    ensures { Groups (program_of program.now) turn.counts turn.fuel turn.ticks turn.left result state.old live.old store.old starts.old state.new live.new store.new starts.new }
 {
-    if c.frames == 0 {
-        return stands(Stand::Done, fuel, ticks, left, c);
+    if turn.counts.frames == 0 || states::has_result(state) {
+        return stands(Stand::Done, turn);
     }
-    if states::result_kind(state) != 0 {
-        return stands(Stand::Done, fuel, ticks, left, c);
-    }
-    let last = c.frames - 1;
+    let last = turn.counts.frames - 1;
     let base = starts[last] as usize;
     let kind = cells::tag(live, base);
-    if kind == 65 {
-        return stands(Stand::Host, fuel.consume(8), ticks, left, c);
+    if kind == Tag::FrameCallback as u32 {
+        let fuel = turn.fuel.consume(8);
+        return stands(Stand::Host, Turn { fuel, ..turn });
     }
-    if ticks == 0 {
-        return stands(Stand::Paused, fuel, ticks, left, c);
+    if turn.ticks == 0 {
+        return stands(Stand::Paused, turn);
     }
-    if kind == 66 {
-        let a = closing::effect_callback(program, state, live, store, starts, args, c);
-        return acted(a, fuel, 8, ticks, left, c);
+    if kind == Tag::FrameEffect as u32 {
+        let a = closing::effect_callback(program, state, live, store, starts, args, turn.counts);
+        return acted(a, turn, 8);
     }
-    lucia_group(
-        program, state, live, store, starts, args, fuel, ticks, left, c,
-    )
+    lucia_group(program, state, live, store, starts, args, turn)
 }
 
 // Groups, until one says how the run ends.
@@ -214,19 +242,14 @@ pub fn run(
     store: &mut [u8],
     starts: &mut [u32],
     args: &mut [u8],
-    fuel: Fuel,
-    ticks: u32,
-    left: u32,
-    c: Counts,
+    turn: Turn,
 ) -> Group
-    requires { Groupable (program_of program.now) c left state.old live.old store.old starts.old args.old }
-    ensures { Runs (program_of program.now) c fuel ticks left result state.old live.old store.old starts.old state.new live.new store.new starts.new }
+    requires { Groupable (program_of program.now) turn.counts turn.left state.old live.old store.old starts.old args.old }
+    ensures { Runs (program_of program.now) turn.counts turn.fuel turn.ticks turn.left result state.old live.old store.old starts.old state.new live.new store.new starts.new }
 {
-    let mut r = stands(Stand::GoesOn, fuel, ticks, left, c);
+    let mut r = stands(Stand::GoesOn, turn);
     while let Stand::GoesOn = r.stand {
-        r = run_group(
-            program, state, live, store, starts, args, r.fuel, r.ticks, r.left, r.counts,
-        );
+        r = run_group(program, state, live, store, starts, args, r.turn);
     }
     r
 }

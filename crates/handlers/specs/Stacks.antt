@@ -1,5 +1,6 @@
 -- A walk down the frames under the top: one law for each return of `search`.
-use Rattle.std.specs.Prelude.{◌≡◌, ℕ, ◌+◌, ◌-◌, ◌<◌, ◌≤◌, get_or, drop}
+use Rattle.std.specs.Prelude.{◌≡◌, ℕ, ◌+◌, ◌-◌, ◌<◌, ◌≤◌, get_or, drop, Option, Some, None, IfSome}
+use Rattle.std.specs.Option.{unwrap_or}
 use Rattle.std.proofs.Math.Path.{refl, sym, ap}
 use Rattle.std.proofs.Common.{subst, ◌∙◌, arith, drop_at}
 use mathlib.Core.List.{List, [], ◌∷◌, ◌++◌, append_assoc, append-nil}
@@ -144,7 +145,7 @@ module _ (P : Program) (e : Cell) where
           has : Finds P e (written r.frame).handlers j
           has = finds _ _ top
 
-        pub left_in : j < g.handlers → (F : List Frame) → length F ≡ n → Under F L starts → SearchedIn P e F (i - 1) j
+        left_in : j < g.handlers → (F : List Frame) → length F ≡ n → Under F L starts → SearchedIn P e F (i - 1) j
         unfolding find onto
         left_in h F q u =
             let o : Reached F L starts (i - 1) = r F q u in
@@ -162,7 +163,7 @@ module _ (P : Program) (e : Cell) where
               first = w;
             }
 
-        pub left_next : g.handlers ≤ j → Left n L starts (i - 1)
+        left_next : g.handlers ≤ j → Left n L starts (i - 1)
         unfolding find
         left_next h = record {
           lies = s.lies;
@@ -180,6 +181,15 @@ module _ (P : Program) (e : Cell) where
                 left = o.left ∙ rw d (onto_under o.above o.frame (find P e o.below));
               };
         }
+
+      -- what `find_handler` says of it
+      module _ {g : Running} {r : Option ℕ} (is : (g ≡ opened L (get_or starts (i - 1) 0)) × (g.place < 4294967296))
+          (finds : (w : Written) (pre : List Cell) → Top w pre g L → Finds P e w.handlers (unwrap_or r g.handlers)) where
+        pub left_found : {j : ℕ} → r ≡ Some j → IfSome r (λ k. k < g.handlers) → (F : List Frame) → length F ≡ n → Under F L starts → SearchedIn P e F (i - 1) j
+        left_found q h = left_in is (rw q at finds) (rw q at h)
+
+        pub left_missed : r ≡ None → Left n L starts (i - 1)
+        left_missed q = left_next is (rw q at finds) (omega arith)
 
   -- the next frame's cells are there
   module _ (b : List ℕ) {n : ℕ} {starts : List ℕ} {i : ℕ} (s : Left n (cells b) starts i) (lt : 0 < i) where

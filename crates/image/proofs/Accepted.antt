@@ -12,7 +12,8 @@ use Rattle.image.specs.Records.{if?, both, Answer, refused, accepted, then, size
 use Rattle.image.specs.Program.{Code, operand_kind, operand_fine, opcode_fine, last_fine, part, effect_fine, constant_fine, capture_fine, no_op, no_code, counts_fine, code_fine, program_fine}
 use Rattle.image.specs.Image.{constants_at, codes_at, sized, constant, constants?, constants_from, own, code_of, refusal, Inner, none, inner_from, read_by, read_inner, parse}
 use Rattle.image.specs.Parts.{Part, There}
-use Rattle.image.proofs.Parts.{clash, first, second, all_at, part_whole, part_body, part_number, whole_true, constant_true, own_true, entered}
+use Rattle.std.proofs.lemmas.Bool.{false≢true, false_from_ne_true}
+use Rattle.image.proofs.Parts.{first, second, all_at, part_whole, part_body, part_number, whole_true, constant_true, own_true, entered}
 use Rattle.image.specs.declared.Op.{Op}
 use Rattle.image.specs.declared.Capture.{Capture}
 use Rattle.image.specs.declared.Constant.{Constant}
@@ -35,19 +36,15 @@ operand_in c Global x h = ltb-true _ _ h
 operand_in c Upvalue x h = ltb-true _ _ h
 operand_in c Const x h = ltb-true _ _ h
 operand_in c Target x h = ltb-true _ _ h
-operand_in c LeftOut x h = clash h
+operand_in c LeftOut x h = false≢true h
 
 -- an opcode that is none of the five after which a code may end
 pub not_last : (o : Op) → (o.number ≡ 37 → ⊥) → (40 ≤ o.number → 43 < o.number) → last_fine o ≡ false
 unfolding last_fine
-not_last o a b = by (last_fine o) (pick (eqb o.number 37) (λ e _. a (eqb-true _ _ e)) (λ _ h.
+not_last o a b = false_from_ne_true (last_fine o) (pick (eqb o.number 37) (λ e _. a (eqb-true _ _ e)) (λ _ h.
     let l : 40 ≤ o.number = leb-true _ _ (first _ _ h) in
     let m : o.number ≤ 43 = leb-true _ _ (second _ _ h) in
     omega (arith, b l)))
-  where
-    by : (t : Bool) → (t ≡ true → ⊥) → t ≡ false
-    by true h = absurd (h refl)
-    by false h = refl
 
 capture_in : (c : Code) (x : Capture) → capture_fine c x ≡ true → CaptureIn c x
 unfolding capture_fine
@@ -85,7 +82,7 @@ module _ (image : List ℕ) (p : List Code) (c : Code) (h : code_fine image p c 
       last = first _ _ (second _ _ (second _ _ h))
 
       by : Dec (i ≡ length c.opcodes - 1) → i + 1 < length c.opcodes
-      by (yes e) = absurd (clash (sym w ∙ ap (λ (n : ℕ). last_fine (get_or c.opcodes n no_op)) e ∙ last))
+      by (yes e) = absurd (false≢true (sym w ∙ ap (λ (n : ℕ). last_fine (get_or c.opcodes n no_op)) e ∙ last))
       by (no n) = omega arith
 
   fine_in : (n : ℕ) → ((i : ℕ) → i < length c.constants → Sized image (get_or c.constants i no_constant))
@@ -157,7 +154,7 @@ module _ {A : Type 0} {P : ℕ → A → Type 0} where
 -- ---- the constants of a code
 sized_range : (k e n : ℕ) → sized k e n ≡ true → (16 ≤ k) × (k ≤ 23)
 unfolding sized
-sized_range k e n = is 16 _ _ (omega arith) (is 17 _ _ (omega arith) (is 18 _ _ (omega arith) (is 19 _ _ (omega arith) (is 20 _ _ (omega arith) (is 21 _ _ (omega arith) (is 22 _ _ (omega arith) (is 23 _ _ (omega arith) (λ h. absurd (clash h)))))))))
+sized_range k e n = is 16 _ _ (omega arith) (is 17 _ _ (omega arith) (is 18 _ _ (omega arith) (is 19 _ _ (omega arith) (is 20 _ _ (omega arith) (is 21 _ _ (omega arith) (is 22 _ _ (omega arith) (is 23 _ _ (omega arith) (λ h. absurd (false≢true h)))))))))
   where
     is : (m : ℕ) (x y : Bool) → (16 ≤ m) × (m ≤ 23) → (y ≡ true → (16 ≤ k) × (k ≤ 23)) → if? (eqb k m) x y ≡ true → (16 ≤ k) × (k ≤ 23)
     is m x y b f = pick (eqb k m) (λ t _. let z = eqb-true k m t in omega arith) (λ _. f)

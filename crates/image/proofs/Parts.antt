@@ -1,14 +1,14 @@
 -- Laws that several theorems and the reader share: parts of the image, what the tests say, and lists by number.
 use Rattle.std.specs.Prelude.{◌≡◌, Bool, true, false, length, drop, leb, eqb}
 use Rattle.std.proofs.Math.Path.{refl}
-use Rattle.std.proofs.Common.{sym, ap, ◌∙◌, arith, zero-add, length-take, length-drop, get_or-take, get_or-drop, get_or-append-add, ext_get_or, leb-true, leb-false}
+use Rattle.std.proofs.Common.{sym, ap, ◌∙◌, arith, zero-add, pos_of_ne-zero, length-take, length-drop, get_or-take, get_or-drop, get_or-append-add, ext_get_or, leb-true, leb-false}
 use mathlib.Core.List.{List, [], ◌∷◌, ◌++◌, map}
 use Prim.Native.Nat.{ℕ, zero, suc, ◌+◌, ◌-◌, ◌<◌, ◌≤◌}
 use Rattle.std.proofs.Math.Decide.{ℕ_discrete}
 use Rattle.std.proofs.Math.ListN.{get_or, length-append, get_or-append, get_or-map}
 use Rattle.std.proofs.lemmas.List.{length-map, get_or_at}
 use Rattle.std.proofs.Math.Arith.{lt_of_le-ne}
-use Rattle.std.proofs.lemmas.Bool.{eqb-false}
+use Rattle.std.proofs.lemmas.Bool.{eqb-false, false≢true}
 use Rattle.cells.specs.Le.{le_at, le_same}
 use Rattle.image.specs.Records.{if?, both, size, kind, body, after, headed, inside, whole, listed}
 use Rattle.image.specs.Program.{all, tab}
@@ -16,9 +16,6 @@ use Rattle.image.specs.Image.{constant, own, refusal}
 use Rattle.image.specs.Parts.{Part, There, Own, Entered}
 
 -- ---- what both say
-pub clash : false ≡ true → ⊥
-clash e = let z : ◌≡◌ {A = ℕ} 0 1 = cc in omega arith
-
 pub first : (a b : Bool) → both a b ≡ true → a ≡ true
 unfolding both
 first true b h = refl
@@ -27,12 +24,34 @@ first false b h = h
 pub second : (a b : Bool) → both a b ≡ true → b ≡ true
 unfolding both
 second true b h = h
-second false b h = absurd (clash h)
+second false b h = absurd (false≢true h)
 
 pub both_assoc : (a b c : Bool) → both (both a b) c ≡ both a (both b c)
 unfolding both
 both_assoc true b c = refl
 both_assoc false b c = refl
+
+pub both_true : (a : Bool) → both a true ≡ a
+unfolding both
+both_true true = refl
+both_true false = refl
+
+pub both_false : (a : Bool) → both a false ≡ false
+unfolding both
+both_false true = refl
+both_false false = refl
+
+pub both_swap : (a b : Bool) → both a b ≡ both b a
+unfolding both
+both_swap true true = refl
+both_swap true false = refl
+both_swap false true = refl
+both_swap false false = refl
+
+-- two tests that hold hold together
+pub both_in : {a b : Bool} → a ≡ true → b ≡ true → both a b ≡ true
+unfolding both
+both_in {a} {b} p q = rw (p, q)
 
 -- ---- lists by number
 module _ {A : Type 0} where
@@ -120,13 +139,9 @@ own_true s h =
       fine = second _ _ d;
     }
 
-positive : (d : ℕ) → (d ≡ 0 → ⊥) → 1 ≤ d
-positive zero f = absurd (f refl)
-positive (suc d) f = omega arith
-
 pub entered : (d n : ℕ) (s : List ℕ) (at : ℕ) → refusal d n s at ≡ 0 → Entered d n s at
 unfolding refusal
-entered d n s at h = by (headed s at) (eqb (kind s at) 1) (eqb d 0) (leb _ n) (inside s at) (leb-true _ _) (λ e. positive d (eqb-false _ _ e)) (leb-false _ _) (leb-true _ _) h
+entered d n s at h = by (headed s at) (eqb (kind s at) 1) (eqb d 0) (leb _ n) (inside s at) (leb-true _ _) (λ e. pos_of_ne-zero (eqb-false _ _ e)) (leb-false _ _) (leb-true _ _) h
   where
     by : (a b c e f : Bool) → (a ≡ true → 6 ≤ length s - at) → (c ≡ false → 1 ≤ d) → (e ≡ false → n < 256) → (f ≡ true → size s at ≤ length s - (at + 6))
         → ◌≡◌ {A = ℕ} (if? a (if? b (if? c 4 (if? e 4 (if? f 0 2))) 2) 2) 0 → Entered d n s at

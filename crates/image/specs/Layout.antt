@@ -8,6 +8,7 @@ use Rattle.image.specs.Image.{opcodes_at, globals_at, captures_at, constants_at,
 use Rattle.image.specs.declared.Op.{Op}
 use Rattle.image.specs.declared.Capture.{Capture}
 use Rattle.image.specs.declared.Constant.{Constant}
+use Rattle.image.specs.declared.Row.{Row}
 
 -- the tables: row k is the code that was begun as number k; `used` constants and `kept` numbers of inner codes
 pub record Tables : Type 0 where
@@ -48,6 +49,18 @@ row_of place opcodes globals g captures c from n = place ∷ opcodes ∷ globals
 abbrev pub row : ℕ → List ℕ → ℕ → ℕ → List ℕ
 row base s from to =
     row_of base (size s opcodes_at / 6) (base + (globals_at s + 6)) (size s (globals_at s) / 2) (base + (captures_at s + 6)) (size s (captures_at s) / 4) from (to - from)
+
+-- the ten numbers of a row, and of rows one behind the other
+abbrev pub numbers_of : Row → List ℕ
+numbers_of r = r.place ∷ r.opcodes ∷ r.globals_at ∷ r.globals ∷ r.captures_at ∷ r.captures ∷ r.constants_from ∷ r.constants ∷ r.codes_from ∷ r.codes ∷ []
+
+unfoldable pub flat : List Row → List ℕ
+flat [] = []
+flat (r ∷ l) = numbers_of r ++ flat l
+
+-- the row of a code that is not there
+abbrev pub no_row : Row
+no_row = record { place = 0; opcodes = 0; globals_at = 0; globals = 0; captures_at = 0; captures = 0; constants_from = 0; constants = 0; codes_from = 0; codes = 0 }
 
 -- a code is begun: its row, and its constants' places
 unfoldable pub begin : ℕ → List ℕ → Tables → Answer Tables

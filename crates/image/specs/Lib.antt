@@ -8,3 +8,4 @@ pub mod Parts
 pub mod Agrees
 pub mod Fine
 pub mod Build
+pub mod Kinds

@@ -9,9 +9,10 @@ use native.Mathlib.Omega.{arith}
 use borrow.Author.Tests.{lt-ltb, le-ltb, ltb-true, ltb-false}
 use Rattle.std.proofs.Math.IntN.{sub_ℕ}
 use Rattle.std.specs.Int.Signed.{mag, non_neg}
+use Rattle.std.proofs.lemmas.Nat.{mul-mod_first, mul-mod_second}
 use Rattle.ints.specs.Ints.{signed, wrap, quotient, divided, with_sign, div, rem}
 use Rattle.ints.specs.Modulo.{opposite}
-use Rattle.ints.proofs.Modulo.{mod_times, times_mod, none_plus, opposite_none, is_opposite, opposite_mod, opposite_opposite, opposite_plus, opposite_times}
+use Rattle.ints.proofs.Modulo.{none_plus, opposite_none, is_opposite, opposite_mod, opposite_opposite, opposite_plus, opposite_times}
 
 module _ (h : ℕ) (some : 0 < h) where
   abbrev m : ℕ
@@ -70,11 +71,11 @@ module _ (h : ℕ) (some : 0 < h) where
   unfolding wrap
   wrap_crossed a b =
       wrap_neg (pos (suc a * b)) ∙ opposite_mod m more (suc a * b) ∙ sym (opposite_times m more (suc a) b)
-      ∙ sym (ap (λ (k : ℕ). k * (b % m) % m) (wrap_negsuc a) ∙ times_mod m (opposite m (suc a)) b)
+      ∙ sym (ap (λ (k : ℕ). k * (b % m) % m) (wrap_negsuc a) ∙ mul-mod_second (opposite m (suc a)) b m)
 
   pub wrap_product : (x y : ℤ) → wrap h (x *ℤ y) ≡ wrap h x * wrap h y % m
   unfolding wrap
-  wrap_product (pos a) (pos b) = sym (mod_times m a (b % m) ∙ times_mod m a b)
+  wrap_product (pos a) (pos b) = sym (mul-mod_first a (b % m) m ∙ mul-mod_second a b m)
   wrap_product (pos a) (negsuc b) =
       ap (λ (k : ℕ). wrap h (neg_ℤ (pos k))) (mul_comm a (suc b)) ∙ wrap_crossed b a ∙ ap (λ (k : ℕ). k % m) (mul_comm (wrap h (negsuc b)) (a % m))
   wrap_product (negsuc a) (pos b) = wrap_crossed a b

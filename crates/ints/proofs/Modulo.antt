@@ -1,8 +1,9 @@
 -- Numbers modulo any m, and their opposites.
 use Rattle.std.specs.Prelude.{◌≡◌, ℕ, ◌+◌, ◌-◌, ◌*◌, ◌/◌, ◌%◌, ◌<◌}
-use Rattle.std.proofs.Common.{sym, ◌∙◌, mul_comm}
+use Rattle.std.proofs.Common.{sym, ◌∙◌}
 use Rattle.std.proofs.Math.Path.{ap}
 use Rattle.std.proofs.Math.Nat.{add-mod-mod, mod-mod, mod-lt, zero-mod, mod-add-div, add-mul-mod_self_left, mul-mod_right}
+use Rattle.std.proofs.lemmas.Nat.{mul-mod_first}
 use native.Mathlib.Omega.{arith}
 use Rattle.ints.specs.Modulo.{opposite}
 
@@ -10,17 +11,9 @@ use Rattle.ints.specs.Modulo.{opposite}
 pub same : (m x y t u : ℕ) → x + m * t ≡ y + m * u → x % m ≡ y % m
 same m x y t u e = sym (add-mul-mod_self_left x m t) ∙ ap (λ (n : ℕ). n % m) e ∙ add-mul-mod_self_left y m u
 
-pub mod_times : (m a b : ℕ) → (a % m) * b % m ≡ a * b % m
-mod_times m a b =
-    let e : (a % m + m * (a / m)) * b ≡ a * b = ap (λ (n : ℕ). n * b) (mod-add-div a m) in
-    same m ((a % m) * b) (a * b) (a / m * b) 0 (omega (arith, e))
-
-pub times_mod : (m a b : ℕ) → a * (b % m) % m ≡ a * b % m
-times_mod m a b = ap (λ (n : ℕ). n % m) (mul_comm a (b % m)) ∙ mod_times m b a ∙ ap (λ (n : ℕ). n % m) (mul_comm b a)
-
 -- multiples of m
 none_times : (m n b : ℕ) → n % m ≡ 0 → n * b % m ≡ 0
-none_times m n b e = sym (mod_times m n b) ∙ ap (λ (k : ℕ). k * b % m) e ∙ ap (λ (k : ℕ). k % m) (omega arith) ∙ zero-mod m
+none_times m n b e = sym (mul-mod_first n b m) ∙ ap (λ (k : ℕ). k * b % m) e ∙ ap (λ (k : ℕ). k % m) (omega arith) ∙ zero-mod m
 
 pub none_plus : (m x n : ℕ) → n % m ≡ 0 → (x + n) % m ≡ x % m
 none_plus m x n e = sym (add-mod-mod x n m) ∙ ap (λ (k : ℕ). (x + k) % m) e ∙ ap (λ (k : ℕ). k % m) (omega arith)

@@ -1,5 +1,5 @@
 -- How an opcode ends that only takes values off its stack: no byte changes.
-use Rattle.std.specs.Prelude.{◌≡◌, ℕ, ◌-◌, ◌<◌, ◌≤◌}
+use Rattle.std.specs.Prelude.{◌≡◌, ℕ, ◌-◌, ◌<◌, ◌≤◌, Result, Ok, Err}
 use Rattle.std.proofs.Math.Path.{refl, sym, ap}
 use Rattle.std.proofs.Common.{◌∙◌, arith}
 use mathlib.Core.List.{List, [], ◌∷◌}
@@ -21,7 +21,7 @@ use Rattle.plan.specs.Inside.{Inside, left, Nexts, Does}
 use Rattle.plan.proofs.InsideLaws.{goes_fits, jumps_fits, runs_cost, runs_fits, handlers_few}
 use Rattle.plan.specs.declared.Error.{Error}
 use Rattle.plan.specs.declared.Next.{Next}
-use Rattle.plan.specs.declared.Next.TheVariants.{Goes, Jumps, Throws, Stops}
+use Rattle.plan.specs.declared.Next.TheVariants.{Goes, Jumps, Throws}
 use Rattle.refusals.specs.declared.Refusal.{Refusal}
 use Rattle.refusals.specs.Refusals.{number}
 
@@ -49,14 +49,14 @@ pub record Acts (P : Program) (op x : ℕ) (g : registers.Running) (live : List 
   pub is : (z : Sizes) (m : M) (r : Running) (S : List Cell) → Inside P z m r g (cells live) S → opcode_action P m r op x ≡ t r
 
 module _ {P : Program} {op x : ℕ} {g : registers.Running} {live : List ℕ} where
-  unchanged : {n : Next} → ((z : Sizes) (m : M) (r : Running) (S : List Cell) → Inside P z m r g (cells live) S → Nexts P z op x m r n live live) → Does P op x g n live live
+  unchanged : {n : Result Next Refusal} → ((z : Sizes) (m : M) (r : Running) (S : List Cell) → Inside P z m r g (cells live) S → Nexts P z op x m r n live live) → Does P op x g n live live
   unchanged f = record { next = λ z m r S q i. f z m r S i; same = record { rest = refl; len = refl } }
 
-  pub acts_stops : {k : Refusal} → Acts P op x g live (λ (r : Running). refuses (number k)) → Does P op x g (Stops k) live live
+  pub acts_stops : {k : Refusal} → Acts P op x g live (λ (r : Running). refuses (number k)) → Does P op x g (Err k) live live
   unfolding outcome
   acts_stops a = unchanged (λ z m r S i. (ap (λ (t : Taken). outcome P z t m) (a.is z m r S i), refl))
 
-  pub acts_goes : (n : ℕ) {h : registers.Running} → n ≤ g.stack → h ≡ fewer n g → Acts P op x g live (λ (r : Running). takes (goes (stacked r (drop n r.stack)))) → Does P op x g (Goes h) live live
+  pub acts_goes : (n : ℕ) {h : registers.Running} → n ≤ g.stack → h ≡ fewer n g → Acts P op x g live (λ (r : Running). takes (goes (stacked r (drop n r.stack)))) → Does P op x g (Ok (Goes h)) live live
   unfolding pace_of
   acts_goes n {h} le e a = unchanged (λ z m r S i.
       let o : Runs r.handle r.place r.locals (drop n r.stack) r.handlers r.below h (cells live) = rw e (pop_top i.runs n le) in
@@ -71,7 +71,7 @@ module _ {P : Program} {op x : ℕ} {g : registers.Running} {live : List ℕ} wh
         runs = o;
       })
 
-  pub acts_jumps : (n : ℕ) {h : registers.Running} → n ≤ g.stack → h ≡ fewer_at x n g → Acts P op x g live (λ (r : Running). takes (jumps (placed r x (drop n r.stack)))) → Does P op x g (Jumps h) live live
+  pub acts_jumps : (n : ℕ) {h : registers.Running} → n ≤ g.stack → h ≡ fewer_at x n g → Acts P op x g live (λ (r : Running). takes (jumps (placed r x (drop n r.stack)))) → Does P op x g (Ok (Jumps h)) live live
   unfolding pace_of
   acts_jumps n {h} le e a = unchanged (λ z m r S i.
       let o : Runs r.handle x r.locals (drop n r.stack) r.handlers r.below h (cells live) = rw e (place_top (pop_top i.runs n le) x) in
@@ -87,7 +87,7 @@ module _ {P : Program} {op x : ℕ} {g : registers.Running} {live : List ℕ} wh
       })
 
   pub acts_throws : (n : ℕ) (y : v.Error) {h : registers.Running} {e : Error} → n ≤ g.stack → h ≡ fewer n g → e ≡ error_of y → Acts P op x g live (λ (r : Running). takes (throws y (stacked r (drop n r.stack))))
-      → Does P op x g (Throws h e) live live
+      → Does P op x g (Ok (Throws h e)) live live
   acts_throws n y {h} le e q a = unchanged (λ z m r S i. (
     record {
       error = y;

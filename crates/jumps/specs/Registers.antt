@@ -1,14 +1,14 @@
 -- Opcode 49: one law for each answer.
-use Rattle.std.specs.Prelude.{◌≡◌, refl, ℕ, ◌+◌, ◌/◌, ◌<◌, ◌≤◌, length, get_or, set}
+use Rattle.std.specs.Prelude.{◌≡◌, refl, Bool, true, false, ℕ, ◌+◌, ◌/◌, ◌<◌, ◌≤◌, length, get_or, set, Ok, Err}
 use Rattle.std.proofs.Math.Path.{sym, ap}
-use Rattle.std.proofs.Common.{◌∙◌, arith, length-append, length-set, eq-eqb, ne_eqb}
+use Rattle.std.proofs.Common.{◌∙◌, arith, length-append, length-set}
 use mathlib.Core.List.{List, [], ◌∷◌, ◌++◌}
 use Rattle.std.proofs.Math.ListN.{drop}
 use Rattle.cells.specs.Cells.{room, cells}
 use Rattle.cells.specs.CellsLaws.{length_cells}
 use Rattle.cells.specs.declared.Cell.{Cell}
 use Rattle.image.specs.Records.{both}
-use Rattle.machine.specs.Values.{Program, type_of, un_operator}
+use Rattle.machine.specs.Values.{Program, type_of, is_effect, un_operator}
 use Rattle.machine.specs.Machine.{Handler, M, frame_cost, frames_cost}
 use Rattle.machine.specs.Opcodes.{Running, stacked, goes, throws, takes, with_top, registered, register_handler, opcode_action}
 use Rattle.machine.specs.Calls.{Sizes, pace_of}
@@ -21,7 +21,7 @@ use Rattle.plan.specs.Searches.{Finds}
 use Rattle.plan.specs.Inside.{Inside, left, Nexts, Does}
 use Rattle.plan.proofs.InsideLaws.{goes_fits, goes_short, goes_handlers, runs_cost, handlers_few}
 use Rattle.plan.specs.declared.Error.{Error}
-use Rattle.plan.specs.declared.Next.TheVariants.{Goes, Throws, Stops}
+use Rattle.plan.specs.declared.Next.TheVariants.{Goes, Throws}
 use Rattle.jumps.specs.Ends.{fewer, Shown, Acts, room_left, acts_stops, acts_throws, top_none, top_acts}
 use Rattle.refusals.specs.declared.Refusal.TheVariants.{FewValues, LiveFull, ManyHandlers}
 
@@ -42,23 +42,23 @@ pub fewer_fits : (n : ℕ) (g : registers.Running) (live : List ℕ) {h : regist
 fewer_fits n g live e le = rw e (omega arith)
 
 module _ (P : Program) (x : ℕ) (g : registers.Running) (live : List ℕ) where
-  pub register_stops : g.stack ≡ 0 → Does P 49 x g (Stops FewValues) live live
+  pub register_stops : g.stack ≡ 0 → Does P 49 x g (Err FewValues) live live
   register_stops z = acts_stops (top_none (λ r. register_handler P r x) (λ m r. action_register P m r x) z)
 
-  module _ {e : Cell} {h : registers.Running} {t : ℕ} (some : g.stack ≡ 0 → ⊥) (s : Shown g live 0 e) (o : h ≡ fewer 1 g) (k : t ≡ type_of e) where
-    pub register_throws : {u : ℕ} {q : Error} → (t ≡ 8 → ⊥) → u ≡ type_of e → q ≡ error_of (un_operator 49 x u) → Does P 49 x g (Throws h q) live live
+  module _ {e : Cell} {h : registers.Running} {t : Bool} (some : g.stack ≡ 0 → ⊥) (s : Shown g live 0 e) (o : h ≡ fewer 1 g) (k : t ≡ is_effect e) where
+    pub register_throws : {u : ℕ} {q : Error} → t ≡ false → u ≡ type_of e → q ≡ error_of (un_operator 49 x u) → Does P 49 x g (Ok (Throws h q)) live live
     unfolding register_handler
     register_throws n u q =
         acts_throws 1 (un_operator 49 x (type_of e)) (omega arith) o (q ∙ ap (λ (y : ℕ). error_of (un_operator 49 x y)) u)
         (top_acts (λ r. register_handler P r x) (λ m r. action_register P m r x) some s
-        (λ r st p. rw (ne_eqb (type_of e) 8 (λ y. n (k ∙ y))) (ap (λ (l : List Cell). throws (un_operator 49 x (type_of e)) (stacked r (drop 1 l))) (sym p))))
+        (λ r st p. rw (sym k ∙ n) (ap (λ (l : List Cell). throws (un_operator 49 x (type_of e)) (stacked r (drop 1 l))) (sym p))))
 
-    module _ (y : t ≡ 8) where
+    module _ (y : t ≡ true) where
       registers_acts : Acts P 49 x g live (λ (r : Running). takes (goes (left r r.place r.locals (drop 1 r.stack) (handlers_after P e x r))))
       unfolding register_handler
       registers_acts =
           top_acts (λ r. register_handler P r x) (λ m r. action_register P m r x) some s
-          (λ r st p. rw (eq-eqb (type_of e) 8 (sym k ∙ y)) (ap (λ (l : List Cell). goes (left r r.place r.locals (drop 1 l) (registered P e x (length (drop 1 l)) r.handlers))) (sym p)))
+          (λ r st p. rw (sym k ∙ y) (ap (λ (l : List Cell). goes (left r r.place r.locals (drop 1 l) (registered P e x (length (drop 1 l)) r.handlers))) (sym p)))
 
       module _ {j : ℕ} (f : FindsIn P e h live j) where
         -- in a machine that runs the frame
@@ -95,7 +95,7 @@ module _ (P : Program) (x : ℕ) (g : registers.Running) (live : List ℕ) where
 
           -- the frame goes on with other handlers, which there is room for
           goes_as : (hs : List Handler) (h' : registers.Running) (new : List ℕ) → handlers_after P e x r ≡ hs → length hs ≤ 16 → length new ≡ length live
-              → Runs r.handle r.place r.locals (drop 1 r.stack) hs r.below h' (cells new) → Nexts P z 49 x m r (Goes h') live new
+              → Runs r.handle r.place r.locals (drop 1 r.stack) hs r.below h' (cells new) → Nexts P z 49 x m r (Ok (Goes h')) live new
           unfolding pace_of
           goes_as hs h' new q few n runs =
               record {
@@ -110,7 +110,7 @@ module _ (P : Program) (x : ℕ) (g : registers.Running) (live : List ℕ) where
                 runs = runs;
               }
 
-        pub register_sets : {new : List ℕ} → j < h.handlers → Turns (set_handler j x h.stack) h live h new → Does P 49 x g (Goes h) live new
+        pub register_sets : {new : List ℕ} → j < h.handlers → Turns (set_handler j x h.stack) h live h new → Does P 49 x g (Ok (Goes h)) live new
         register_sets {new} lt u = record {
           next = λ z m r S q i.
               goes_as z m r S i _ h new (is_set z m r S i lt) (rw length-set (handlers_few i)) u.len (u.top _ _ (popped z m r S i));
@@ -118,7 +118,7 @@ module _ (P : Program) (x : ℕ) (g : registers.Running) (live : List ℕ) where
         }
 
         module _ (all : h.handlers ≤ j) where
-          pub register_many : 16 ≤ h.handlers → Does P 49 x g (Stops ManyHandlers) live live
+          pub register_many : 16 ≤ h.handlers → Does P 49 x g (Err ManyHandlers) live live
           register_many le = record {
             next = λ z m r S q i.
                 (goes_handlers i _ _ _ _ (registers_acts.is z m r S i) (omega (arith, one_more z m r S i all)), refl);
@@ -126,14 +126,14 @@ module _ (P : Program) (x : ℕ) (g : registers.Running) (live : List ℕ) where
           }
 
           module _ (few : h.handlers < 16) where
-            pub register_adds : {h' : registers.Running} {new : List ℕ} → Turns (add_handler e x h.stack) h live h' new → Does P 49 x g (Goes h') live new
+            pub register_adds : {h' : registers.Running} {new : List ℕ} → Turns (add_handler e x h.stack) h live h' new → Does P 49 x g (Ok (Goes h')) live new
             register_adds {h'} {new} u = record {
               next = λ z m r S q i.
                   goes_as z m r S i _ h' new (is_new z m r S i all) (omega (arith, ap length (is_new z m r S i all), one_more z m r S i all)) u.len (u.top _ _ (popped z m r S i));
               same = record { rest = u.rest; len = u.len };
             }
 
-            pub register_short : {n k : ℕ} → n ≡ end_of h → k ≡ room live → k < n + 2 → Does P 49 x g (Stops LiveFull) live live
+            pub register_short : {n k : ℕ} → n ≡ end_of h → k ≡ room live → k < n + 2 → Does P 49 x g (Err LiveFull) live live
             register_short en ek lt = record {
               next = λ z m r S q i. (
                 goes_short i _ _ _ _ (registers_acts.is z m r S i) (omega (arith, one_more z m r S i all))

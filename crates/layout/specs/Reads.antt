@@ -1,20 +1,24 @@
 -- A code that is read with the codes in it, and the image: what the tables hold then.
-use Rattle.std.specs.Prelude.{◌≡◌, List, [], ◌∷◌, ◌++◌, Bool, true, false, not, length, get_or, take, drop, set, eqb, Option, None, Some, Result, Ok, Err}
+use Rattle.std.specs.Prelude.{◌≡◌, List, [], ◌∷◌, ◌++◌, Bool, true, false, not, ◌⊎◌, length, get_or, take, drop, set, eqb, Option, None, Some, Result, Ok, Err}
 use Rattle.std.proofs.Math.Path.{refl, sym, ap}
 use Rattle.std.proofs.Common.{◌∙◌, append_assoc, append-nil, take_all, add-one, add-zero, length-set, take-suc, take-suc-set, length-take-le}
 use Prim.Native.Nat.{ℕ, zero, suc, ◌+◌, ◌-◌, ◌*◌, ◌<◌, ◌≤◌}
+use Rattle.std.proofs.Math.Logic.{⊎_elim}
 use native.Mathlib.Omega.{arith}
 use Rattle.std.proofs.Math.Seq.{take-set-lt}
 use borrow.Author.Tests.{lt-ltb, le-ltb, le-leb, lt-leb, eq-eqb, ne_eqb, not-true, not-false}
 use Rattle.image.specs.Records.{if?, Answer, refused, accepted, then, size, body, after, whole}
 use Rattle.layout.specs.RecordsLaws.{Behind, part_length}
 use Rattle.image.specs.Image.{refusal, codes_at}
-use Rattle.layout.specs.ImageLaws.{passed, some}
-use Rattle.image.specs.Layout.{Tables, Found, found_from, finished, code_by, deeper, code, layout}
+use Rattle.layout.specs.ImageLaws.{passed}
+use Rattle.image.proofs.RowLaws.{row_within, with_codes, flat_codes}
+use Rattle.image.specs.declared.Row.{Row}
+use Rattle.image.specs.Layout.{flat, no_row, Tables, Found, found_from, finished, code_by, deeper, code, layout}
 use Rattle.layout.specs.Tables.{view, Pushed, Ready, Front, Lies, Begins, Begun}
 use Rattle.layout.specs.declared.Parts.{Parts}
 use Rattle.layout.specs.declared.Sizes.{Sizes}
 use Rattle.refusals.specs.Refusals.{number, number_of}
+use Rattle.refusals.proofs.NumberLaws.{number_not_zero}
 use Rattle.refusals.specs.declared.Refusal.{Refusal}
 use Rattle.refusals.specs.declared.Refusal.TheVariants.{ImageStructure}
 
@@ -45,9 +49,12 @@ module _ {kept : ℕ} {numbers inner₀ : List ℕ} {i : ℕ} {inner : List ℕ}
         size = e ∙ c.size;
       }
 
-pub copying_ends : {kept : ℕ} {numbers inner₀ inner : List ℕ} → Copying kept numbers inner₀ (length numbers) inner → (k : ℕ) (rows : List ℕ)
-    → Finished k kept numbers rows inner₀ (set (set rows (10 * k + 8) kept) (10 * k + 9) (length numbers)) inner
-copying_ends {kept} {numbers} {inner₀} c k rows = record { marked = refl; listed = c.listed ∙ ap (λ (l : List ℕ). take kept inner₀ ++ l) (take_all (length numbers) numbers (omega arith)) }
+pub copying_ends : {kept : ℕ} {numbers inner₀ inner : List ℕ} → Copying kept numbers inner₀ (length numbers) inner → (k : ℕ) (rows : List Row) → Finishable (flat rows) inner₀ k kept numbers
+    → Finished k kept numbers (flat rows) inner₀ (flat (set rows k (with_codes (get_or rows k no_row) kept (length numbers)))) inner
+copying_ends {kept} {numbers} {inner₀} c k rows f = record {
+  marked = sym (flat_codes rows k kept (length numbers) (row_within rows k f.row));
+  listed = c.listed ∙ ap (λ (l : List ℕ). take kept inner₀ ++ l) (take_all (length numbers) numbers (omega arith));
+}
 
 -- ---- A code
 -- what the answer and the tables say
@@ -185,7 +192,7 @@ module _ {d base : ℕ} {s : List ℕ} {held : Sizes} {rowsₑ constantsₑ inne
   reading_refused h w {r} b =
       let e : number r ≡ refusal d now.codes s at = rw b at w in
       record {
-        does = ap refused e ∙ ap (then _) (sym (found_not (deeper d) d i.fuel base s at (found numbers count now rows constants inner) h i.enough (λ y. some r (e ∙ y))) ∙ i.left) ∙ n.whole;
+        does = ap refused e ∙ ap (then _) (sym (found_not (deeper d) d i.fuel base s at (found numbers count now rows constants inner) h i.enough (λ y. number_not_zero r (e ∙ y))) ∙ i.left) ∙ n.whole;
         span = omega arith;
       }
 
@@ -292,15 +299,11 @@ pub record Laid (s : List ℕ) (r : Result Sizes Refusal) (rows constants inner 
   pub low : Low? r
 
 module _ (s : List ℕ) where
-  pub layout_short : length s < 6 → refused 1 ≡ layout s
+  pub layout_unsized : (length s < 6) ⊎ ((6 ≤ length s) × (65536 < length s)) → refused 1 ≡ layout s
   unfolding layout
-  layout_short h = simp (lt-ltb _ _ h)
+  layout_unsized = ⊎_elim (λ h. simp (lt-ltb _ _ h)) (λ (h, k). simp (le-ltb _ _ h, lt-ltb _ _ k))
 
   module _ (h : 6 ≤ length s) where
-    pub layout_long : 65536 < length s → refused 1 ≡ layout s
-    unfolding layout
-    layout_long k = simp (le-ltb _ _ h, lt-ltb _ _ k)
-
     module _ (k : length s ≤ 65536) {t : Bool} (e : t ≡ whole s 0 1) where
       pub layout_not : not t ≡ true → refused 2 ≡ layout s
       unfolding layout

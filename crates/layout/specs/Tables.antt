@@ -8,7 +8,9 @@ use Rattle.image.specs.Records.{both, Answer, refused, accepted, then, size, bod
 use Rattle.layout.specs.RecordsLaws.{Behind, part_length}
 use Rattle.image.proofs.Parts.{first, second, whole_true, listed_true}
 use Rattle.image.specs.Image.{opcodes_at, globals_at, captures_at, constants_at, codes_at, constant}
-use Rattle.image.specs.Layout.{Tables, Places, places_from, front, row, row_of, begin}
+use Rattle.image.proofs.RowLaws.{row_within, flat_push}
+use Rattle.image.specs.declared.Row.{Row}
+use Rattle.image.specs.Layout.{numbers_of, flat, Tables, Places, places_from, front, row, row_of, begin}
 use Rattle.layout.specs.declared.Parts.{Parts}
 
 -- ---- The front of a code
@@ -97,15 +99,8 @@ pub record Pushed (n : ℕ) (xs old new : List ℕ) : Type 0 where
 pub pushed : (n v : ℕ) (old : List ℕ) → n < length old → Pushed n (v ∷ []) old (set old n v)
 pushed n v old h = record { does = rw add-one (take-suc-set old n v h) }
 
--- one after the other
-pub pushed_both : {n : ℕ} {xs ys l₀ l₁ l₂ : List ℕ} → Pushed n xs l₀ l₁ → Pushed (n + length xs) ys l₁ l₂ → Pushed n (xs ++ ys) l₀ l₂
-pushed_both {n} {xs} {ys} {l₀} p q = record {
-  does = rw (length-append, ← add_assoc) (q.does ∙ ap (λ (l : List ℕ). l ++ ys) p.does ∙ append_assoc (take n l₀) xs ys);
-}
-
-pub pushed_five : {n a b c d e : ℕ} {l₀ l₁ l₂ l₃ l₄ l₅ : List ℕ} → Pushed n (a ∷ []) l₀ l₁ → Pushed (n + 1) (b ∷ []) l₁ l₂ → Pushed (n + 2) (c ∷ []) l₂ l₃
-    → Pushed (n + 3) (d ∷ []) l₃ l₄ → Pushed (n + 4) (e ∷ []) l₄ l₅ → Pushed n (a ∷ b ∷ c ∷ d ∷ e ∷ []) l₀ l₅
-pushed_five p q r s t = pushed_both (pushed_both (pushed_both (pushed_both p q) r) s) t
+pub pushed_row : (rows : List Row) (k : ℕ) (r : Row) → k < length rows → Pushed (10 * k) (numbers_of r) (flat rows) (flat (set rows k r))
+pushed_row rows k r h = record { does = flat_push rows k r h }
 
 -- ---- Constants: each takes six bytes at least, so 10,922 is the most
 abbrev pub places_of : Option ℕ → List ℕ → Answer Places

@@ -5,13 +5,15 @@ ghost use Rattle.std.specs.Prelude.{◌≡◌, [], ◌∷◌, ◌+◌, ◌*◌, 
 ghost use Rattle.cells.specs.Le.{le_at};
 ghost use Rattle.image.specs.Records.{size, kind, after, whole, listed};
 ghost use Rattle.image.specs.Image.{sized, constant, refusal};
-ghost use Rattle.image.specs.Layout.{front, row_of};
+ghost use Rattle.image.specs.Kinds.{record_number};
+ghost use Rattle.image.specs.Layout.{flat, front};
 ghost use Rattle.layout.specs.RecordsLaws.{Behind};
 ghost use Rattle.layout.specs.ImageLaws.{effect_sized};
 ghost use Rattle.layout.specs.Reads.{Finishable, Finished, Open, Reads, Laid};
 ghost use Rattle.layout.specs.Tables.{Front, Lies, Pushed, Listed, Room, Ready, Begins};
 ghost use Rattle.refusals.specs.Refusals.{number_of};
 
+use image::{ConstantKind, EffectKind, RecordKind, Row};
 use refusals::Refusal;
 
 // Where the records of a code lie in its body, and where the codes in it begin. The opcodes always lie at 8.
@@ -56,92 +58,77 @@ fn after(part: &[u8], at: usize) -> usize
 }
 
 // Is a whole record of this kind there?
-fn is_whole(part: &[u8], at: usize, k: u16) -> bool
+#[tactic(auto, unfolding(image::specs::Records::whole, image::specs::Records::both))]
+fn is_whole(part: &[u8], at: usize, expected: RecordKind) -> bool
     requires { at ≤ length part.now }
-    ensures { result ≡ whole part.now at k }
+    ensures { result ≡ whole part.now at (record_number expected) }
 {
-    if part.len() - at < 6 {
-        return false;
-    }
-    if kind(part, at) != k {
-        return false;
-    }
-    size(part, at) <= part.len() - (at + 6)
+    part.len() - at >= 6
+        && kind(part, at) == expected as u16
+        && size(part, at) <= part.len() - (at + 6)
 }
 
 // Is a whole record of this kind there, a list of items of n bytes?
-fn is_listed(part: &[u8], at: usize, k: u16, n: usize) -> bool
+#[tactic(auto, using(crate::specs::RecordsLaws::whole_head), unfolding(image::specs::Records::listed, image::specs::Records::both))]
+fn is_listed(part: &[u8], at: usize, expected: RecordKind, n: usize) -> bool
     requires { (at ≤ length part.now) × (0 < n) }
-    ensures { result ≡ listed part.now at k n }
+    ensures { result ≡ listed part.now at (record_number expected) n }
 {
-    if !is_whole(part, at, k) {
-        return false;
-    }
-    size(part, at) % n == 0
+    is_whole(part, at, expected) && size(part, at) % n == 0
 }
 
 // May the body of an effect have this size?
+#[tactic(auto, unfolding(image::specs::Kinds::effect_kind_of, crate::specs::ImageLaws::effect_sized, image::specs::Records::both))]
 fn is_effect_sized(part: &[u8], at: usize, n: usize) -> bool
     requires { at + n ≤ length part.now }
     ensures { result ≡ effect_sized (le_at 2 part.now at) n }
 {
-    if n < 2 {
-        return false;
-    }
-    match cells::read16(part, at) {
-        0..=2 => n == 2,
-        3 => n >= 6,
-        _ => true,
-    }
+    n >= 2
+        && match EffectKind::try_from(cells::read16(part, at)) {
+            Ok(EffectKind::Yield | EffectKind::Error | EffectKind::Panic) => n == 2,
+            Ok(EffectKind::Declared) => n >= 6,
+            Err(_) => true,
+        }
 }
 
 // May the body of the constant at a place have this size?
+#[tactic(auto, unfolding(image::specs::Kinds::constant_kind_of, image::specs::Image::sized, crate::specs::ImageLaws::effect_sized))]
 fn is_sized(part: &[u8], at: usize, n: usize) -> bool
     requires { at + 6 + n ≤ length part.now }
     ensures { result ≡ sized (kind part.now at) (le_at 2 part.now (at + 6)) n }
 {
-    match kind(part, at) {
-        16 => n == 0,
-        17 => n == 1,
-        18 | 19 => n == 8,
-        20 | 21 => true,
-        22 => n == 2,
-        23 => is_effect_sized(part, at + 6, n),
-        _ => false,
+    match ConstantKind::try_from(kind(part, at)) {
+        Ok(ConstantKind::Null) => n == 0,
+        Ok(ConstantKind::Bool) => n == 1,
+        Ok(ConstantKind::Int | ConstantKind::Float) => n == 8,
+        Ok(ConstantKind::Str | ConstantKind::Bytes) => true,
+        Ok(ConstantKind::Function) => n == 2,
+        Ok(ConstantKind::Effect) => is_effect_sized(part, at + 6, n),
+        Err(_) => false,
     }
 }
 
 // Is a constant there?
+#[tactic(auto, unfolding(image::specs::Image::constant, image::specs::Records::both))]
 fn is_constant(part: &[u8], at: usize) -> bool
     requires { at ≤ length part.now }
     ensures { result ≡ constant part.now at }
 {
-    if part.len() - at < 6 {
-        return false;
-    }
-    let n = size(part, at);
-    if n > part.len() - (at + 6) {
-        return false;
-    }
-    is_sized(part, at, n)
+    part.len() - at >= 6
+        && size(part, at) <= part.len() - (at + 6)
+        && is_sized(part, at, size(part, at))
 }
 
 // May the record at a place be read as code number n? Depth and count come before its length.
-#[tactic(auto, using(crate::specs::ImageLaws::refusal_short, crate::specs::ImageLaws::refusal_other, crate::specs::ImageLaws::refusal_deep, crate::specs::ImageLaws::refusal_many, crate::specs::ImageLaws::refusal_long, crate::specs::ImageLaws::refusal_none))]
+#[tactic(auto, unfolding(image::specs::Image::refusal))]
 fn enterable(part: &[u8], at: usize, depth: u32, n: usize) -> Result<(), Refusal>
     requires { at ≤ length part.now }
     ensures { number_of result ≡ refusal depth n part.now at }
 {
-    if part.len() - at < 6 {
+    if part.len() - at < 6 || kind(part, at) != RecordKind::Code as u16 {
         return Err(Refusal::ImageStructure);
     }
-    if kind(part, at) != 1 {
-        return Err(Refusal::ImageStructure);
-    }
-    if depth == 0 {
-        return Err(Refusal::ImageCodes);
-    }
-    if n >= 256 {
+    if depth == 0 || n >= 256 {
         return Err(Refusal::ImageCodes);
     }
     if size(part, at) > part.len() - (at + 6) {
@@ -180,24 +167,20 @@ fn read_constants(part: &[u8], base: usize, constants: &mut [u32], used: usize) 
 }
 
 // Are a code's own records there, but for what its constants are?
+#[tactic(auto, using(crate::specs::RecordsLaws::listed_of, crate::specs::Tables::front_none, crate::specs::Tables::front_opcodes))]
 fn is_front(part: &[u8]) -> bool
     ensures { result ≡ front part.now }
 {
-    if part.len() < 8 {
-        return false;
-    }
-    if !is_listed(part, 8, 2, 6) {
+    if part.len() < 8 || !is_listed(part, 8, RecordKind::Opcodes, 6) {
         return false;
     }
     let globals = after(part, 8);
-    if !is_listed(part, globals, 3, 2) {
+    if !is_listed(part, globals, RecordKind::Globals, 2) {
         return false;
     }
     let captures = after(part, globals);
-    if !is_listed(part, captures, 4, 4) {
-        return false;
-    }
-    is_whole(part, after(part, captures), 5)
+    is_listed(part, captures, RecordKind::Captures, 4)
+        && is_whole(part, after(part, captures), RecordKind::Constants)
 }
 
 // Where the records of a code lie.
@@ -217,49 +200,17 @@ fn parts_of(part: &[u8]) -> Parts
     }
 }
 
-// Five numbers more in a table.
-fn push_five(table: &mut [u32], n: usize, a: u32, b: u32, c: u32, d: u32, e: u32)
-    requires { n + 5 ≤ length table.old }
-    ensures { Pushed n (a ∷ b ∷ c ∷ d ∷ e ∷ []) table.old table.new }
-{
-    push(table, n, a);
-    push(table, n + 1, b);
-    push(table, n + 2, c);
-    push(table, n + 3, d);
-    push(table, n + 4, e);
-}
-
-// The row of a code that is begun. The codes in it are not yet known, so the last two numbers are 0.
-fn push_row(
-    rows: &mut [u32],
-    k: usize,
-    place: u32,
-    opcodes: u32,
-    globals: u32,
-    g: u32,
-    captures: u32,
-    c: u32,
-    from: u32,
-    n: u32,
-)
-    requires { 10 * k + 10 ≤ length rows.old }
-    ensures { Pushed (10 * k) (row_of place opcodes globals g captures c from n) rows.old rows.new }
-{
-    push_five(rows, 10 * k, place, opcodes, globals, g, captures);
-    push_five(rows, 10 * k + 5, c, from, n, 0, 0);
-}
-
 // A code whose own records are there is begun.
 fn begin_front(
     part: &[u8],
     base: usize,
-    rows: &mut [u32],
+    rows: &mut [Row],
     constants: &mut [u32],
     codes: usize,
     used: usize,
 ) -> Option<usize>
-    requires { Ready base part.now codes used rows.old constants.old × Front part.now }
-    ensures { Begins base part.now codes used rows.old constants.old result rows.new constants.new }
+    requires { Ready base part.now codes used (flat rows.old) constants.old × Front part.now }
+    ensures { Begins base part.now codes used (flat rows.old) constants.old result (flat rows.new) constants.new }
 {
     let p = parts_of(part);
     let globals = p.globals + 6;
@@ -267,18 +218,18 @@ fn begin_front(
     let start = p.constants + 6;
     let end = p.codes;
     let to = read_constants(&part[start..end], base + start, constants, used)?;
-    push_row(
-        rows,
-        codes,
-        base as u32,
-        ((globals - 20) / 6) as u32,
-        (base + globals) as u32,
-        ((captures - 6 - globals) / 2) as u32,
-        (base + captures) as u32,
-        ((start - 6 - captures) / 4) as u32,
-        used as u32,
-        (to - used) as u32,
-    );
+    // The codes in it are not yet known.
+    rows[codes] = Row {
+        place: base as u32,
+        opcodes: ((globals - 20) / 6) as u32,
+        globals_at: (base + globals) as u32,
+        globals: ((captures - 6 - globals) / 2) as u32,
+        captures_at: (base + captures) as u32,
+        captures: ((start - 6 - captures) / 4) as u32,
+        constants_from: used as u32,
+        constants: (to - used) as u32,
+        ..Row::NONE
+    };
     Some(to)
 }
 
@@ -287,13 +238,13 @@ fn begin_front(
 fn begin(
     part: &[u8],
     base: usize,
-    rows: &mut [u32],
+    rows: &mut [Row],
     constants: &mut [u32],
     codes: usize,
     used: usize,
 ) -> Option<usize>
-    requires { Ready base part.now codes used rows.old constants.old }
-    ensures { Begins base part.now codes used rows.old constants.old result rows.new constants.new }
+    requires { Ready base part.now codes used (flat rows.old) constants.old }
+    ensures { Begins base part.now codes used (flat rows.old) constants.old result (flat rows.new) constants.new }
 {
     if !is_front(part) {
         return None;
@@ -302,15 +253,20 @@ fn begin(
 }
 
 // Code k is done: the numbers of the codes in it go to the table, and their place and count to its row.
-fn finish(rows: &mut [u32], inner: &mut [u32], k: usize, kept: usize, numbers: &[u8])
-    requires { Finishable rows.old inner.old k kept numbers.now }
-    ensures { Finished k kept numbers.now rows.old inner.old rows.new inner.new }
+#[tactic(auto, using(image::proofs::RowLaws::row_within))]
+fn finish(rows: &mut [Row], inner: &mut [u32], k: usize, kept: usize, numbers: &[u8])
+    requires { Finishable (flat rows.old) inner.old k kept numbers.now }
+    ensures { Finished k kept numbers.now (flat rows.old) inner.old (flat rows.new) inner.new }
 {
     for (i, &number) in numbers.iter().enumerate() {
         push(inner, kept + i, u32::from(number));
     }
-    rows[10 * k + 8] = kept as u32;
-    rows[10 * k + 9] = numbers.len() as u32;
+    let row = rows[k];
+    rows[k] = Row {
+        codes_from: kept as u32,
+        codes: numbers.len() as u32,
+        ..row
+    };
 }
 
 // The next code in the body of its record, with all codes in it, and what the tables hold then.
@@ -319,13 +275,13 @@ fn read_code(
     part: &[u8],
     base: usize,
     depth: u32,
-    rows: &mut [u32],
+    rows: &mut [Row],
     constants: &mut [u32],
     inner: &mut [u32],
     held: Sizes,
 ) -> Result<Sizes, Refusal>
-    requires { Open base part.now held rows.old constants.old inner.old }
-    ensures { Reads depth base part.now held rows.old constants.old inner.old result rows.new constants.new inner.new }
+    requires { Open base part.now held (flat rows.old) constants.old inner.old }
+    ensures { Reads depth base part.now held (flat rows.old) constants.old inner.old result (flat rows.new) constants.new inner.new }
 {
     let Some(to) = begin(part, base, rows, constants, held.codes, held.constants) else {
         return Err(Refusal::ImageStructure);
@@ -359,20 +315,17 @@ fn read_code(
 // The whole image is read into the tables: 1 for its size, then 2 and 4 from the front, and left-over bytes where they stand.
 pub fn read_layout(
     image: &[u8],
-    rows: &mut [u32],
+    rows: &mut [Row],
     constants: &mut [u32],
     inner: &mut [u32],
 ) -> Result<Sizes, Refusal>
-    requires { (2560 ≤ length rows.old) × (10923 ≤ length constants.old) × (256 ≤ length inner.old) }
-    ensures { Laid image.now result rows.new constants.new inner.new }
+    requires { (256 ≤ length rows.old) × (10923 ≤ length constants.old) × (256 ≤ length inner.old) }
+    ensures { Laid image.now result (flat rows.new) constants.new inner.new }
 {
-    if image.len() < 6 {
+    if image.len() < 6 || image.len() > 65536 {
         return Err(Refusal::ImageSize);
     }
-    if image.len() > 65536 {
-        return Err(Refusal::ImageSize);
-    }
-    if !is_whole(image, 0, 1) {
+    if !is_whole(image, 0, RecordKind::Code) {
         return Err(Refusal::ImageStructure);
     }
     let end = after(image, 0);

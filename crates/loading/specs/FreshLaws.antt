@@ -37,19 +37,19 @@ pub head_writes : {state t u : List ℕ} (n : ℕ) → Writes state (set (cells 
 head_writes n a b = then_writes a (λ (l : List Cell). set l 1 (cell 64 0 0)) b
 
 -- ---- The loaded world is written
-module _ {store t u : List ℕ} (n : ℕ) {z : Cell} (k : 1 + n ≤ room store) where
-  pub fresh_store_lem : Writes store (set (cells store) 0 (cell 128 0 n)) t → z ≡ null → Writes t (paste (cells t) 1 (replicate n z) n) u → Writes store (fresh_store n ++ drop (1 + n) (cells store)) u
-  fresh_store_lem a e b =
-      let w = then_writes a (λ (l : List Cell). paste l 1 (replicate n null) n) (rw e at b) in
+module _ {store t u : List ℕ} (n : ℕ) (k : 1 + n ≤ room store) where
+  pub fresh_store_lem : {h : Cell} → h ≡ cell 128 0 n → Writes store (set (cells store) 0 h) t → Writes t (paste (cells t) 1 (replicate n null) n) u → Writes store (fresh_store n ++ drop (1 + n) (cells store)) u
+  fresh_store_lem e a b =
+      let w = then_writes (rw e at a) (λ (l : List Cell). paste l 1 (replicate n null) n) b in
       record { cells = w.cells ∙ fresh_cells n (cell 128 0 n) (cells store) (omega (arith, length_cells store)); rest = w.rest; len = w.len }
 
-module _ {state t u : List ℕ} (n : ℕ) {z : Cell} (k : length state ≡ 8256) where
-  pub fresh_state_lem : Writes state (headed (1 + n) (cells state)) t → z ≡ null → Writes t (paste (cells t) 2 (replicate 514 z) 514) u → Writes state (fresh_state n) u
-  fresh_state_lem a e b =
-      let w = then_writes a (λ (l : List Cell). paste l 2 (replicate 514 null) 514) (rw e at b) in
+module _ {state t u : List ℕ} (n : ℕ) (k : length state ≡ 8256) where
+  pub fresh_state_lem : Writes state (headed (1 + n) (cells state)) t → Writes t (paste (cells t) 2 (replicate 514 null) 514) u → Writes state (fresh_state n) u
+  fresh_state_lem a b =
+      let w = then_writes a (λ (l : List Cell). paste l 2 (replicate 514 null) 514) b in
       record { cells = w.cells ∙ fresh_block 514 (cell 1 0 (1 + n)) (cell 64 0 0) (cells state) (length_cells state ∙ omega arith); rest = w.rest; len = w.len }
 
 -- ---- Frames, result, wait and slice are dropped
-pub clears_all : {state a b c : List ℕ} {used : ℕ} {z : Cell} → used ≡ (get_or (cells state) 0 null).payload → Writes state (headed used (cells state)) a
-    → z ≡ null → Writes a (set (cells a) 2 z) b → Writes b (set (cells b) 3 z) c → Writes state (cleared (cells state)) c
-clears_all e p n q r = rw (← e) (then_writes (then_writes p (λ (l : List Cell). set l 2 null) (rw n at q)) (λ (l : List Cell). set l 3 null) (rw n at r))
+pub clears_all : {state a b c : List ℕ} {used : ℕ} → used ≡ (get_or (cells state) 0 null).payload → Writes state (headed used (cells state)) a
+    → Writes a (set (cells a) 2 null) b → Writes b (set (cells b) 3 null) c → Writes state (cleared (cells state)) c
+clears_all e p q r = rw (← e) (then_writes (then_writes p (λ (l : List Cell). set l 2 null) q) (λ (l : List Cell). set l 3 null) r)

@@ -1,7 +1,7 @@
 -- A load: what its inner functions give and leave is what the machine's definitions say.
 use Rattle.std.proofs.Math.Path.{◌≡◌, ap, subst}
 use Rattle.std.specs.Prelude.{refl, ℕ, suc, ◌+◌, ◌<◌, ◌≤◌, ◌*◌, min, get_or, take, drop, Result, Ok, Err}
-use Rattle.std.proofs.Common.{sym, ◌∙◌, arith, length-take, get_or-take, eq-eqb, ne_eqb, lt-ltb, le-ltb}
+use Rattle.std.proofs.Common.{sym, ◌∙◌, arith, length-take, eq-eqb, ne_eqb, lt-ltb, le-ltb}
 use mathlib.Core.List.{List, ◌++◌, ◌∷◌, append-nil}
 use Rattle.std.proofs.Math.ListN.{length, replicate, length-replicate}
 use Rattle.std.proofs.lemmas.List.{replicate-append-replicate}
@@ -12,12 +12,14 @@ use Rattle.image.specs.Records.{Answer, refused, accepted}
 use Rattle.image.specs.Program.{Code, no_code, tab}
 use Rattle.image.specs.Image.{parse}
 use Rattle.image.proofs.Parts.{tab_at, length_tab}
-use Rattle.image.specs.Layout.{field, code_at, capture_at}
+use Rattle.image.specs.Layout.{flat, field, code_at, capture_at}
 use Rattle.image.proofs.Accepted.{accepted_fine}
 use Rattle.layout.specs.declared.Sizes as tables
 use Rattle.refusals.specs.Refusals.{number}
 use Rattle.refusals.specs.declared.Refusal.{Refusal}
 use Rattle.reader.specs.Reads.{Reads}
+use Rattle.lookups.specs.declared.Program as lent
+use Rattle.scan.specs.Tables.{program_in}
 use Rattle.machine.specs.Values.{Program, closure_at, cell}
 use Rattle.machine.specs.Machine.{used, cost}
 use Rattle.machine.specs.Calls.{Sizes, loaded, loaded_machine, load_of, program_of, load}
@@ -32,17 +34,15 @@ module _ {image : List ℕ} {o : Result tables.Sizes Refusal} {rows constants in
   pub outermost_not : {x : Refusal} → o ≡ Err x → refused (number x) ≡ outermost_of (parse image)
   outermost_not e = ap outermost_of (rw e at w.shows)
 
-  pub outermost_is : {t : tables.Sizes} {n : ℕ} → o ≡ Ok t → (n ≡ field rows 0 5) × (n < 4294967296) → accepted n ≡ outermost_of (parse image)
-  outermost_is {t} e f =
-      let c = t.codes in
-      let u = t.constants in
-      let k = t.inner in
-      let codes = tab c (code_at image (take (10 * c) rows) (take u constants) (take k inner)) in
-      let q : accepted codes ≡ parse image = rw e at w.shows in
+  pub outermost_is : {t : tables.Sizes} (p : lent.Program) {n : ℕ} → o ≡ Ok t → program_in p.image.now (flat p.rows.now) p.constants.now p.inner.now p.codes ≡ program_in image (take (10 * t.codes) rows) (take t.constants constants) (take t.inner inner) t.codes
+      → n ≡ field (flat p.rows.now) 0 5 → accepted n ≡ outermost_of (parse image)
+  outermost_is {t} p {n} e f g =
+      let codes = tab p.codes (code_at p.image.now (flat p.rows.now) p.constants.now p.inner.now) in
+      let q : accepted codes ≡ parse image = ap (λ (x : Program). accepted x.codes) f ∙ rw e at w.shows in
       let some : 1 ≤ length codes = (accepted_fine image codes (sym q)).some in
-      let l : 1 ≤ c = omega (arith, some, length_tab c (code_at image (take (10 * c) rows) (take u constants) (take k inner))) in
-      ap accepted (f.0 ∙ sym (get_or-take (10 * c) rows 5 0 (omega arith))
-      ∙ sym (ap (λ (x : Code). length x.captures) (tab_at c (code_at image (take (10 * c) rows) (take u constants) (take k inner)) 0 no_code (omega arith)) ∙ length_tab (field (take (10 * c) rows) 0 5) (capture_at image (field (take (10 * c) rows) 0 4))))
+      let l : 1 ≤ p.codes = omega (arith, some, length_tab p.codes (code_at p.image.now (flat p.rows.now) p.constants.now p.inner.now)) in
+      ap accepted (g ∙ sym (ap (λ (x : Code). length x.captures) (tab_at p.codes (code_at p.image.now (flat p.rows.now) p.constants.now p.inner.now) 0 no_code (omega arith))
+      ∙ length_tab (field (flat p.rows.now) 0 5) (capture_at p.image.now (field (flat p.rows.now) 0 4))))
       ∙ ap outermost_of q
 
 -- an accepted image's outermost code has at most 256 captures
@@ -166,6 +166,6 @@ module _ (image state live store : List ℕ) where
     pub load_full : {m : ℕ} → m ≡ room store → m < 1 + n → Loaded image state live store (got_of 15 null) state store
     load_full q l = at_full s (rw e at h) (omega arith)
 
-    pub load_fresh : {m : ℕ} {state' store' : List ℕ} → m ≡ room store → 1 + n ≤ m → Writes state (fresh_state n) state' × Writes store (fresh_store n ++ drop (1 + n) (cells store)) store'
-        → Loaded image state live store (got_of 0 (closure_at 0)) state' store'
-    load_fresh k l w = at_fresh s (rw e at h) (omega arith) w.0 w.1
+    pub load_fresh : {m : ℕ} {v : Cell} {state' store' : List ℕ} → m ≡ room store → 1 + n ≤ m → v ≡ closure_at 0 → Writes state (fresh_state n) state' × Writes store (fresh_store n ++ drop (1 + n) (cells store)) store'
+        → Loaded image state live store (got_of 0 v) state' store'
+    load_fresh k l q w = rw q (at_fresh s (rw e at h) (omega arith) w.0 w.1)

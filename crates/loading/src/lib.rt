@@ -11,10 +11,14 @@ ghost use Rattle.asks.specs.Entries.{says, got_said};
 ghost use Rattle.loading.specs.Fresh.{headed, cleared, fresh_store, fresh_state, outermost_of};
 
 use asks::Got;
-use cells::Cell;
+use cells::{Cell, Tag};
+use form::Tables;
 use refusals::Refusal;
 
-// The mark, what the store uses, and no frame.
+// How many steps a slice has.
+const SLICE: u32 = 64;
+
+// The mark, what the store uses, and no frame; the slice is whole.
 fn headed(state: &mut [u8], used: u64)
     requires { length state.old ≡ 8256 }
     ensures { Writes state.old (headed used (cells state.old)) state.new }
@@ -23,7 +27,7 @@ fn headed(state: &mut [u8], used: u64)
         state,
         0,
         Cell {
-            tag: 1,
+            tag: form::LOADED,
             number: 0,
             payload: used,
         },
@@ -32,7 +36,7 @@ fn headed(state: &mut [u8], used: u64)
         state,
         1,
         Cell {
-            tag: 64,
+            tag: SLICE,
             number: 0,
             payload: 0,
         },
@@ -46,9 +50,8 @@ fn cleared(state: &mut [u8])
 {
     let used = cells::payload(state, 0);
     headed(state, used);
-    let none = asks::null();
-    cells::put(state, 2, none);
-    cells::put(state, 3, none);
+    cells::put(state, 2, Cell::NULL);
+    cells::put(state, 3, Cell::NULL);
 }
 
 // Memory in form is cleared.
@@ -72,16 +75,8 @@ fn fresh_store(store: &mut [u8], captures: usize)
     requires { 1 + captures ≤ room store.old }
     ensures { Writes store.old (fresh_store captures ++ drop (1 + captures) (cells store.old)) store.new }
 {
-    cells::put(
-        store,
-        0,
-        Cell {
-            tag: 128,
-            number: 0,
-            payload: captures as u64,
-        },
-    );
-    blocks::fill(store, 1, captures, asks::null());
+    cells::put(store, 0, Cell::new(Tag::ObjectClosure, 0, captures as u64));
+    blocks::fill(store, 1, captures, Cell::NULL);
 }
 
 // The state block of the loaded world: only what the store uses.
@@ -90,7 +85,7 @@ fn fresh_state(state: &mut [u8], captures: usize)
     ensures { Writes state.old (fresh_state captures) state.new }
 {
     headed(state, 1 + captures as u64);
-    blocks::fill(state, 2, 514, asks::null());
+    blocks::fill(state, 2, 514, Cell::NULL);
 }
 
 // The loaded world: one closure in the store, and an empty state block.
@@ -103,15 +98,13 @@ fn fresh(state: &mut [u8], store: &mut [u8], captures: usize)
 }
 
 // How many captures the outermost code of an image has.
-#[tactic(auto, using(crate::specs::Loading::outermost_not, crate::specs::Loading::outermost_is))]
+#[tactic(auto, using(form::specs::EntryLaws::reads_low, crate::specs::Loading::outermost_not))]
 fn outermost_of(image: &[u8]) -> Result<usize, Refusal>
     ensures { says result ≡ outermost_of (parse image.now) }
 {
-    let mut rows = [0u32; 2560];
-    let mut constants = [0u32; 10923];
-    let mut inner = [0u32; 256];
-    reader::read_image(image, &mut rows, &mut constants, &mut inner)?;
-    Ok(program::field(&rows, 0, 5))
+    let mut tables = Tables::new();
+    let sizes = tables.read(image)?;
+    Ok(tables.program(image, sizes).capture_count(0))
 }
 
 // The loaded world is written: its closure.
@@ -126,11 +119,7 @@ fn loaded(image: &[u8], state: &mut [u8], live: &[u8], store: &mut [u8]) -> Resu
         return Err(Refusal::StoreFull);
     }
     fresh(state, store, captures);
-    Ok(Cell {
-        tag: 7,
-        number: 0,
-        payload: 0,
-    })
+    Ok(Cell::new(Tag::Closure, 0, 0))
 }
 
 pub fn load(image: &[u8], state: &mut [u8], live: &[u8], store: &mut [u8]) -> Got

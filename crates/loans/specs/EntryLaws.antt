@@ -14,11 +14,9 @@ use Rattle.image.specs.Program.{Code}
 use Rattle.image.specs.Fine.{Accepted}
 use Rattle.image.specs.Image.{parse}
 use Rattle.image.proofs.Accepted.{accepted_fine}
-use Rattle.layout.specs.Reads.{Low}
 use Rattle.layout.specs.declared.Sizes as tables
 use Rattle.refusals.specs.Refusals.{number}
 use Rattle.refusals.specs.declared.Refusal.{Refusal}
-use Rattle.reader.specs.Reads.{Fits}
 use Rattle.machine.specs.Values.{Program}
 use Rattle.memory.specs.Tests.{in_form}
 use Rattle.memory.proofs.Exact.{exact_in}
@@ -97,8 +95,8 @@ module _ (image state live store : List ℕ) {x : Result tables.Sizes Refusal} {
     pub is_ready_lem : Ready found state live store × Accepted P.image P.codes
     is_ready_lem = ready image state live store found is_entered
 
-    pub call_enters : Entered P state (front_live live) (front_store store)
-    call_enters = record {
+    entered_is : Entered P state (front_live live) (front_store store)
+    entered_is = record {
       world = view_of state live store;
       holding = is_ready_lem.0.holding;
       accepted = is_ready_lem.1;
@@ -106,10 +104,8 @@ module _ (image state live store : List ℕ) {x : Result tables.Sizes Refusal} {
       block = is_ready_lem.0.size;
     }
 
-    pub call_fits : 2560 ≤ length rows → 10923 ≤ length constants → 256 ≤ length inner → Fits h.codes h.constants h.inner rows constants inner
-    call_fits b d g =
-        let low : Low h.codes h.constants h.inner = rw a at y.low in
-        record { codes = low.codes; rows = b; constants = omega (arith, low.used); inner = omega (arith, low.codes, low.kept) }
+    pub call_enters : {Q : Program} → Q ≡ P → Entered Q state (front_live live) (front_store store)
+    call_enters q = rw q entered_is
 
 -- ---- With the fuel that a call is lent
 module _ (image state live store fuel : List ℕ) {o : Result Fuel Refusal} (w : o ≡ read fuel) where

@@ -1,14 +1,11 @@
 -- Over whole loans: what is used of them is cut to its most; fuel and memory, as a call finds them.
-use Rattle.std.specs.Prelude.{Result, Ok, Err, List, ℕ, length, take, ltb}
+use Rattle.std.specs.Prelude.{Result, Ok, Err, List, ℕ, length, take}
 use Rattle.fuel.specs.declared.Fuel.{Fuel}
 use Rattle.refusals.specs.declared.Refusal.{Refusal}
 use Rattle.refusals.specs.Refusals.{number}
-use Rattle.image.specs.Records.{if?, Answer, refused, accepted}
+use Rattle.image.specs.Records.{Answer, refused, accepted}
 use Rattle.machine.specs.Calls.{Sizes}
 use Rattle.form.specs.Entry.{Entered, live_of, store_of}
-
-unfoldable pub used_bytes : ℕ → ℕ → ℕ
-used_bytes len most = if? (ltb len most) len most
 
 abbrev pub front_live : List ℕ → List ℕ
 front_live live = take 65536 live

@@ -12,6 +12,7 @@ use borrow.Author.Tests.{eqb-true, eqb-false, leb-true, eq-eqb as is, ne_eqb as 
 use Rattle.cells.specs.Le.{le_at}
 use Rattle.cells.specs.declared.Cell.{Cell}
 use Rattle.image.specs.Records.{if?, both}
+use Rattle.image.proofs.Parts.{both_in}
 use Rattle.image.specs.Effects.{same, same_effect}
 use Rattle.machine.specs.Values.{Program, code_of, builtin, bytes_at, is_effect, equal_effects, Params, code_params, effect_params, Error, call_arguments, un_operator, bin_operator, meta_un_operator, meta_bin_operator, zero_divisor, lucia_error, lucia_panic, thrown, shown, type_of}
 use Rattle.machine.specs.Machine.{Handler, Frame, lucia, host, effect_callback, effects, target_of, enter, Object, closure, list, continuation, Result, failed, M, with_frames, with_store, used, Lookup, here, absent, object_at, check_args, wrong_count, Parsed, parse, parse_args, holds, handlers_of, Found, found, nowhere, under, find, search, capture, perform_by, throw_error, perform_effect, Function, is_closure, is_callback, is_effect_callback, is_continuation, is_none, closure_function, continuation_function, function_of, give, put_back, resume, new_frame, call_closure, call_function, receive, return_value}
@@ -26,10 +27,6 @@ both_out : (a b : Bool) → both a b ≡ true → (a ≡ true) × (b ≡ true)
 unfolding both
 both_out true b h = (refl, h)
 both_out false b h = no h
-
-both_in : (a b : Bool) → a ≡ true → b ≡ true → both a b ≡ true
-unfolding both
-both_in a b p q = rw (p, q) refl
 
 -- ---- Equal effects
 same_true : (s t : List ℕ) → same s t ≡ true → s ≡ t
@@ -46,7 +43,7 @@ same_true (x ∷ s) (y ∷ t) h =
 same_refl : (s : List ℕ) → same s s ≡ true
 unfolding same
 same_refl [] = refl
-same_refl (x ∷ s) = both_in (eqb x x) (same s s) (is x x refl) (same_refl s)
+same_refl (x ∷ s) = both_in (is x x refl) (same_refl s)
 
 module _ (P : Program) (a b : Cell) where
   abbrev A : List ℕ
@@ -72,7 +69,7 @@ module _ (P : Program) (a b : Cell) where
   named_in true q w = refl
   named_in false q w =
       ⊎_elim (λ l. no (sym q ∙ up_to _ _ l))
-      (λ s. both_in _ _ (is _ _ s.0) (both_in _ _ (is _ _ s.1) (rw (← s.2) (same_refl (drop 6 A))))) w
+      (λ s. both_in (is _ _ s.0) (both_in (is _ _ s.1) (rw (← s.2) (same_refl (drop 6 A))))) w
 
   pub same_out : equal_effects P a b ≡ true → Same P a b
   unfolding equal_effects same_effect
@@ -88,8 +85,8 @@ module _ (P : Program) (a b : Cell) where
   same_in : Same P a b → equal_effects P a b ≡ true
   unfolding equal_effects same_effect
   same_in w =
-      ⊎_elim (λ s. rw (is a.tag 8 s.0) (both_in _ _ (is _ _ s.1) (is _ _ s.2)))
-      (λ s. rw (isnt a.tag 8 s.0) (both_in _ _ (is _ _ s.1) (both_in _ _ (is _ _ s.2) (named_in (leb (le_at 2 A 0) 2) refl s.3)))) w
+      ⊎_elim (λ s. rw (is a.tag 8 s.0) (both_in (is _ _ s.1) (is _ _ s.2)))
+      (λ s. rw (isnt a.tag 8 s.0) (both_in (is _ _ s.1) (both_in (is _ _ s.2) (named_in (leb (le_at 2 A 0) 2) refl s.3)))) w
 
 pub unsame : (P : Program) (a b : Cell) → equal_effects P a b ≡ false → Same P a b → ⊥
 unsame P a b q w = no (sym q ∙ same_in P a b w)

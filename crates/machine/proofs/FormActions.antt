@@ -31,6 +31,7 @@ use Rattle.machine.proofs.ValueLaws.{all_take, all_drop, all_reverse, all_get, a
 use Rattle.machine.specs.FormRules.{Carried, Carries, Held, LeftCarries}
 use Rattle.machine.proofs.FormRules.{carries, all_carry, carries_grown, object_at_lem}
 use Rattle.machine.specs.FormActions.{Taking, took, none}
+use Rattle.machine.proofs.Store.{same_code}
 
 -- ---- Operators
 module _ (P : Program) (s : List Object) where
@@ -265,7 +266,7 @@ module _ (P : Program) (a : Accepted P.image P.codes) where
   closure_carries m h p l st hs below (here (closure c us)) q d w n k =
       let s = m.store in
       let i = w.0.formed.stands in
-      let e : i.code ≡ c = same i.closure_there q in
+      let e : i.code ≡ c = same_code i.closure_there q in
       let known : c < length P.codes = rw e at i.known in
       let v = carries P s (lucia h p l st hs) w.0 in
       let operand = (a.fine c known).operand p (rw e at i.place) in
@@ -282,9 +283,6 @@ module _ (P : Program) (a : Accepted P.image P.codes) where
         code = refl;
       })
       (get_or (code_of P c).opcodes p no_op).number (get_or (code_of P c).opcodes p no_op).operand (λ six. rw six at operand)
-    where
-      same : {x : Lookup} {c d : ℕ} {us vs : List Cell} → x ≡ here (closure c us) → x ≡ here (closure d vs) → c ≡ d
-      same h k = cc
   closure_carries m h p l st hs below (here (list vs)) q d w n k = none 7
   closure_carries m h p l st hs below (here (continuation K)) q d w n k = none 7
   closure_carries m h p l st hs below absent q d w n k = none 7

@@ -16,23 +16,29 @@ use Rattle.image.specs.Image.{parse}
 use Rattle.image.specs.Fine.{Accepted}
 use Rattle.image.proofs.Accepted.{accepted_fine}
 use Rattle.machine.specs.Values.{Program, code_of}
-use Rattle.machine.specs.Machine.{Frame, lucia, host, effect_callback, Result, running, returned, failed, unhandled, M, frames_cost, used, result_cost}
+use Rattle.machine.specs.Machine.{Frame, lucia, host, effect_callback, Result, running, returned, failed, unhandled, M, frames_cost, used, result_cost, Object}
 use Rattle.machine.specs.Opcodes.{Action, goes, jumps, makes, sets, sets_builtin, calls, performs, throws, returns, clears, doing, Taken, takes, refuses, next_action}
-use Rattle.machine.specs.Calls.{Sizes, handlers_left, Outcome, does, stops, judge, outcome, World, world, Trace, world_after, Turn, is_done, is_host, is_ready, turn_of, pace_of, charge, goes_on, no_ticks, tick, run, Request, start, answer, clear, text, bytes, set_global, get_global, set_builtin, get_builtin, fit, request_action, request_world, end_of, asked, loaded_machine, loaded, load_of, program_of, load, Call, runs, asks, loads, load_trace, call_of, calls_of, lent}
+use Rattle.machine.specs.Calls.{Sizes, handlers_left, Outcome, does, stops, judge, outcome, World, world, Trace, world_after, Turn, is_done, is_host, is_ready, turn_of, pace_of, charge, goes_on, no_ticks, tick, run, Request, start, answer, clear, text, bytes, set_global, get_global, set_builtin, get_builtin, fit, request_action, request_world, end_of, asked, loaded_machine, loaded, load_of, program_of, load, Call, runs, asks, loads, load_trace, call_of, calls_of, lent, top_handlers}
 use Rattle.machine.specs.Demand.{All, RefusedLoad}
 use Rattle.machine.specs.StepLaws.{Fits, LuciaTop, lucia_top, StaysOn}
-use Rattle.machine.proofs.StepLaws.{if_cases, doing_kept, step_law, accepted_step}
+use Rattle.machine.proofs.StepLaws.{if_cases, doing_kept, step_law, accepted_step, ready_running}
 use Rattle.machine.specs.RunLaws.{charged}
 use Rattle.machine.specs.Formed.{FrameFormed, LeftFormed}
 use Rattle.machine.proofs.Formed.{all_map}
 use Rattle.machine.proofs.FormedLaws.{next_formed, request_formed, taken_formed}
-use Rattle.machine.specs.Form.{Top, of_lucia, of_host, of_effect, of_none, top_of, TurnFits, WorldFits}
+use Rattle.machine.specs.Form.{Top, of_lucia, of_host, of_effect, of_none, top_of, TurnFits, WorldFits, FrameFits}
 use Rattle.machine.specs.ValueLaws.{Value}
 use Rattle.machine.proofs.ValueLaws.{values_all, all_values, all_replicate, null_value}
 use Rattle.machine.specs.FormRules.{Held, LeftCarries}
 use Rattle.machine.proofs.FormRules.{doing_held}
 use Rattle.machine.proofs.FormActions.{next_carries, request_carries, taken_carries}
 use Rattle.machine.specs.FormLaws.{LoadedAs}
+
+-- the top frame of those that fit has at most 16 handlers
+pub top_few : (P : Program) (s : List Object) (F : List Frame) → All (FrameFits P s) F → top_handlers F ≤ 16
+unfolding top_handlers
+top_few P s [] a = omega arith
+top_few P s (f ∷ F) a = a.0.formed.handlers
 
 -- ---- Turns
 -- no wait and no slice fit any frame
@@ -45,7 +51,7 @@ turn_new m = by (top_of m.result m.frames)
     by of_effect = (refl, refl)
     by of_none = (refl, refl)
 
-turn_most : (t : Top) (b : Bool) (left : ℕ) → TurnFits t b left → left ≤ 64
+pub turn_most : (t : Top) (b : Bool) (left : ℕ) → TurnFits t b left → left ≤ 64
 turn_most of_lucia b left h = h.1
 turn_most of_host b left h = omega (arith, h)
 turn_most of_effect b left h = omega (arith, h.1)
@@ -66,13 +72,6 @@ turn_wait (unhandled e args) F left q h = let z : ◌≡◌ {A = ℕ} 0 1 = cc i
 turn_on : (r : Result) (F : List Frame) (left : ℕ) → r ≡ running → LuciaTop F → left ≤ 64 → TurnFits (top_of r F) false left
 unfolding top_of
 turn_on r F left q lucia_top l = rw q (refl, l)
-
-ready_running : (r : Result) (F : List Frame) → turn_of r F ≡ is_ready → r ≡ running
-unfolding turn_of
-ready_running running F q = refl
-ready_running (returned v) F q = let z : ◌≡◌ {A = ℕ} 0 1 = cc in absurd (omega arith)
-ready_running (failed x) F q = let z : ◌≡◌ {A = ℕ} 0 1 = cc in absurd (omega arith)
-ready_running (unhandled e args) F q = let z : ◌≡◌ {A = ℕ} 0 1 = cc in absurd (omega arith)
 
 module _ (P : Program) (z : Sizes) where
   -- ---- Worlds

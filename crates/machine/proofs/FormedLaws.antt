@@ -30,6 +30,7 @@ use Rattle.machine.proofs.RunLaws.{run_law}
 use Rattle.machine.specs.Formed.{FrameFormed, Shaped, Formed, LeftFormed}
 use Rattle.machine.proofs.Formed.{doing_shaped}
 use Rattle.machine.specs.FormedLaws.{FormedIf, took, not, OutcomeFormed, made, stopped}
+use Rattle.machine.proofs.Store.{same_code}
 
 module _ {P : Program} {s : List Object} where
   either : (b : Bool) {x y : Taken} → FormedIf P s x → FormedIf P s y → FormedIf P s (if? b x y)
@@ -188,14 +189,11 @@ module _ (P : Program) (a : Accepted P.image P.codes) where
   unfolding closure_action handlers_of
   closure_formed m h p l st hs below (here (closure c us)) q w =
       let i = w.0.stands in
-      let e : i.code ≡ c = same i.closure_there q in
+      let e : i.code ≡ c = same_code i.closure_there q in
       let f = a.fine c (rw e at i.known) in
       let inside : p < length (code_of P c).opcodes = rw e at i.place in
       opcode_formed P m _ (record { closure_there = q; known = rw e at i.known; code = refl; fine = f; locals = rw e at i.locals; targets = rw e at i.targets; handlers = w.0.handlers; below = w.1 })
       (get_or (code_of P c).opcodes p no_op) (f.operand p inside) (f.next p inside)
-    where
-      same : {x : Lookup} {c d : ℕ} {us vs : List Cell} → x ≡ here (closure c us) → x ≡ here (closure d vs) → c ≡ d
-      same h k = cc
   closure_formed m h p l st hs below (here (list vs)) q w = not 7
   closure_formed m h p l st hs below (here (continuation K)) q w = not 7
   closure_formed m h p l st hs below absent q w = not 7

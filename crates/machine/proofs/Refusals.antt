@@ -39,18 +39,24 @@ unfolding parse
 parse_short true n args s = rw (length-append (take n args)) (omega (arith, take_short n args))
 parse_short false n args s = omega arith
 
-frame_cost_lem : (f : Frame) → 6 ≤ frame_cost f
+pub frame_cost_lem : (f : Frame) → 6 ≤ frame_cost f
 unfolding frame_cost
 frame_cost_lem (lucia c p l s hs) = omega arith
 frame_cost_lem (host n w s hs) = omega arith
 frame_cost_lem (effect_callback e s hs) = omega arith
+
+-- There are no more frames than cells.
+pub frames_few : (F : List Frame) → length F ≤ frames_cost F
+unfolding frames_cost
+frames_few [] = omega arith
+frames_few (f ∷ F) = omega (arith, frames_few F, frame_cost_lem f)
 
 holds_some : (P : Program) (e : Cell) (es : List Cell) → holds P e es ≡ true → 1 ≤ length es
 unfolding holds
 holds_some P e [] h = let z : ◌≡◌ {A = ℕ} 0 1 = cc in absurd (omega arith)
 holds_some P e (x ∷ es) h = omega arith
 
-effects_length : (hs : List Handler) → length (effects hs) ≡ length hs
+pub effects_length : (hs : List Handler) → length (effects hs) ≡ length hs
 unfolding effects
 effects_length [] = refl
 effects_length (h ∷ hs) = ap suc (effects_length hs)

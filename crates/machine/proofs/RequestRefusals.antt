@@ -21,7 +21,7 @@ use Rattle.machine.specs.Refusals.{among, Only}
 use Rattle.machine.proofs.Refusals.{judge_only, throw_within}
 use Rattle.machine.specs.RequestRefusals.{Continuations256}
 
-put_back_length : (v : Cell) (K : List Frame) → length (put_back v K) ≡ length K
+pub put_back_length : (v : Cell) (K : List Frame) → length (put_back v K) ≡ length K
 unfolding put_back
 put_back_length v [] = refl
 put_back_length v (f ∷ K) = refl

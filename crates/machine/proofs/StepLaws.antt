@@ -197,6 +197,14 @@ closure_next P m h p l st hs below (here (list vs)) = not 7 wrong_handle
 closure_next P m h p l st hs below (here (continuation K)) = not 7 wrong_handle
 closure_next P m h p l st hs below absent = not 7 wrong_handle
 
+-- A step is ready only where there is no result.
+pub ready_running : (r : Result) (F : List Frame) → turn_of r F ≡ is_ready → r ≡ running
+unfolding turn_of
+ready_running running F q = refl
+ready_running (returned v) F q = let z : ◌≡◌ {A = ℕ} 0 1 = cc in absurd (omega arith)
+ready_running (failed x) F q = let z : ◌≡◌ {A = ℕ} 0 1 = cc in absurd (omega arith)
+ready_running (unhandled e args) F q = let z : ◌≡◌ {A = ℕ} 0 1 = cc in absurd (omega arith)
+
 ready_next : (P : Program) (m : M) (r : Result) (fs : List Frame) → turn_of r fs ≡ is_ready → Next (next_action P m fs)
 unfolding next_action turn_of
 ready_next P m running [] q = let z : ◌≡◌ {A = ℕ} 0 1 = cc in absurd (omega arith)

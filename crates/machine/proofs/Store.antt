@@ -1,8 +1,9 @@
 -- Laws of the store: an object keeps its place as the store grows.
 use Rattle.std.specs.Prelude.{◌≡◌, refl, List, [], ◌∷◌, ◌++◌, ◌⊎◌, Bool, true, false, ℕ, ◌+◌, ◌-◌, ◌≤◌, ◌<◌, eqb, ltb}
 use Rattle.std.proofs.Common.{inl, inr, ⊎_elim, arith, eqb-true, ltb-false, ne_eqb, le-ltb}
+use Rattle.cells.specs.declared.Cell.{Cell}
 use Rattle.image.specs.Records.{if?}
-use Rattle.machine.specs.Machine.{Object, closure, list, continuation, cost, used, here, absent, object_at}
+use Rattle.machine.specs.Machine.{Object, closure, list, continuation, cost, used, Lookup, here, absent, object_at}
 
 pub cost_some : (o : Object) → 0 < cost o
 unfolding cost
@@ -61,3 +62,7 @@ at_new (x ∷ s) o rest =
     let p : 0 < cost x = cost_some x in
     let e : cost x + used s - cost x ≡ used s = omega arith in
     rw (ne_eqb (cost x + used s) 0 (λ q. omega arith), le-ltb (cost x + used s) (cost x) (omega arith), e) (at_new s o rest)
+
+-- One look-up finds one closure's code.
+pub same_code : {x : Lookup} {c d : ℕ} {us vs : List Cell} → x ≡ here (closure c us) → x ≡ here (closure d vs) → c ≡ d
+same_code h k = cc

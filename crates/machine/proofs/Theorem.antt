@@ -18,7 +18,7 @@ use Rattle.machine.specs.Demand.{Accepts, Deed, captures, sets, other, From, las
 use Rattle.machine.proofs.DemandLaws.{Known}
 use Rattle.machine.proofs.Kept.{TickLaw, AskLaw}
 use Rattle.machine.proofs.Kept.{tick_law, ask_law}
-use Rattle.machine.proofs.StepLaws.{if_cases, refusal_some, refusal_small, step_law, refused_step}
+use Rattle.machine.proofs.StepLaws.{if_cases, refusal_some, refusal_small, step_law, refused_step, ready_running}
 use Rattle.machine.specs.RunLaws.{Ending, Ran}
 use Rattle.machine.proofs.RunLaws.{run_law}
 
@@ -281,14 +281,6 @@ module _ (P : Program) (more : Fuel → ℕ → M → Trace) (ih : (ds : List De
   goes_runs failing = charge_runs _
   goes_runs alone = charge_runs _
 
--- A step is ready only where there is no result.
-running_law : (r : Result) (F : List Frame) → turn_of r F ≡ is_ready → r ≡ running
-unfolding turn_of
-running_law running F q = refl
-running_law (returned v) F q = let x : ◌≡◌ {A = ℕ} 0 1 = cc in absurd (omega arith)
-running_law (failed y) F q = let x : ◌≡◌ {A = ℕ} 0 1 = cc in absurd (omega arith)
-running_law (unhandled e vs) F q = let x : ◌≡◌ {A = ℕ} 0 1 = cc in absurd (omega arith)
-
 run_runs : (P : Program) → TickLaw P → (z : Sizes) (t : ℕ) (ds : List Deed) (fuel : Fuel) (left : ℕ) (m : M) → Inv ds m
     → RunsAs P ds m (run P z t fuel left m)
 unfolding run no_ticks tick steps_of world_after
@@ -308,7 +300,7 @@ run_runs P ticking z (suc t) ds fuel left m i = by (run_runs P ticking z t) (tur
         let e = accepts P z (next_action P m m.frames) m a m' q in
         let s : (d : Deed) × Ticks P ds m d m' = rw e.1 (ticking ds m i.known a e.0) in
         let r = goes_runs P (run P z t) ih (s.0 ∷ ds) fuel left m' (inv_step ds s.0 m m' i (ticks_tells P ds m s.0 m' s.1)) (pace_of a) in
-        (r.0, (s.0, refl, running_law m.result m.frames u, s.1, r.1), r.2)
+        (r.0, (s.0, refl, ready_running m.result m.frames u, s.1, r.1), r.2)
     by ih is_ready u (stops n) q = (ds, (refl, refl), i)
 
 -- What a turn of a run says, in words.

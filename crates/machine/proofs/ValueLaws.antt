@@ -12,7 +12,8 @@ use Rattle.cells.specs.Le.{le_at}
 use Rattle.image.specs.Records.{if?, both}
 use Rattle.image.specs.Program.{Code, no_code}
 use Rattle.image.specs.Fine.{Accepted, no_constant, bytes_of}
-use Rattle.image.proofs.Parts.{clash, first, second}
+use Rattle.std.proofs.lemmas.Bool.{false≢true}
+use Rattle.image.proofs.Parts.{first, second, both_in}
 use Rattle.machine.specs.Values.{Program, code_of, bool, list_at, closure_at, continuation_at, type_of, is_effect, bytes_at, effect_params}
 use Rattle.machine.specs.Machine.{Frame, Object, closure, list, continuation, used, Lookup, here, absent, object_at}
 use Rattle.machine.specs.Opcodes.{constant_value}
@@ -61,11 +62,6 @@ module _ {A : Type 0} (Q : A → Type 0) where
   all_mapped f [] k = tt
   all_mapped f (x ∷ l) k = (k x, all_mapped f l k)
 
-pub both_true : (a b : Bool) → a ≡ true → b ≡ true → both a b ≡ true
-unfolding both
-both_true true b h k = k
-both_true false b h k = h
-
 module _ (P : Program) (s : List Object) where
   pub values_all : (vs : List Cell) → are_values P s vs ≡ true → All (Value P s) vs
   unfolding are_values
@@ -75,7 +71,7 @@ module _ (P : Program) (s : List Object) where
   pub all_values : (vs : List Cell) → All (Value P s) vs → are_values P s vs ≡ true
   unfolding are_values
   all_values [] h = refl
-  all_values (v ∷ vs) h = both_true _ _ h.0 (all_values vs h.1)
+  all_values (v ∷ vs) h = both_in h.0 (all_values vs h.1)
 
   pub effects_all : (es : List Cell) → are_values P s es ≡ true → are_effects es ≡ true → All (Effect P s) es
   unfolding are_values are_effects
@@ -85,7 +81,7 @@ module _ (P : Program) (s : List Object) where
   pub all_effects : (es : List Cell) → All (Effect P s) es → are_effects es ≡ true
   unfolding are_effects
   all_effects [] h = refl
-  all_effects (e ∷ es) h = both_true _ _ h.0.1 (all_effects es h.1)
+  all_effects (e ∷ es) h = both_in h.0.1 (all_effects es h.1)
 
 -- ---- The store grows
 if_mono : (b x y x' y' : Bool) → (x ≡ true → x' ≡ true) → (y ≡ true → y' ≡ true) → if? b x y ≡ true → if? b x' y' ≡ true
@@ -94,7 +90,7 @@ if_mono false x y x' y' f g h = g h
 
 kinds_mono : (P : Program) (v : Cell) (a b c a' b' c' : Bool) → (a ≡ true → a' ≡ true) → (b ≡ true → b' ≡ true) → (c ≡ true → c' ≡ true) → value_is P a b c v ≡ true → value_is P a' b' c' v ≡ true
 kinds_mono P v a b c a' b' c' f g k =
-    let plain : (x y : Bool) → (x ≡ true → y ≡ true) → both (eqb v.payload 0) x ≡ true → both (eqb v.payload 0) y ≡ true = λ x y t h. both_true _ _ (first _ _ h) (t (second (eqb v.payload 0) x h)) in
+    let plain : (x y : Bool) → (x ≡ true → y ≡ true) → both (eqb v.payload 0) x ≡ true → both (eqb v.payload 0) y ≡ true = λ x y t h. both_in (first _ _ h) (t (second (eqb v.payload 0) x h)) in
     if_mono (eqb v.tag 0) _ _ _ _ (λ h. h) (if_mono (eqb v.tag 1) _ _ _ _ (λ h. h) (if_mono (eqb v.tag 2) _ _ _ _ (λ h. h) (if_mono (eqb v.tag 3) _ _ _ _ (λ h. h)
     (if_mono (eqb v.tag 4) _ _ _ _ (λ h. h) (if_mono (eqb v.tag 5) _ _ _ _ (λ h. h) (if_mono (eqb v.tag 6) _ _ _ _ (plain a a' f) (if_mono (eqb v.tag 7) _ _ _ _ (plain b b' g)
     (if_mono (eqb v.tag 8) _ _ _ _ (λ h. h) (if_mono (eqb v.tag 20) _ _ _ _ (λ h. h)
@@ -107,7 +103,7 @@ module _ (s new : List Object) where
     where
       by : (o : Lookup) → object_at s k ≡ o → f o ≡ true → f (object_at (s ++ new) k) ≡ true
       by (here o) q h = rw (at_keeps s new k o q) h
-      by absent q h = absurd (clash (rw none at h))
+      by absent q h = absurd (false≢true (rw none at h))
 
   value_appended : (P : Program) (v : Cell) → Value P s v → Value P (s ++ new) v
   unfolding is_value is_list_at is_closure_at is_continuation_at
@@ -174,14 +170,14 @@ module _ (P : Program) (s : List Object) where
       let x = get_or (code_of P c).constants i no_constant in
       let b = bytes_of P.image x in
       let f = (a.fine c k).valued i l in
-      if_cases (Value P s) (eqb x.kind 17) _ _ (λ q. both_true _ _ (le-leb _ _ (f.bool (eqb-true _ 17 q))) refl) (λ _.
+      if_cases (Value P s) (eqb x.kind 17) _ _ (λ q. both_in (le-leb _ _ (f.bool (eqb-true _ 17 q))) refl) (λ _.
       if_cases (Value P s) (eqb x.kind 18) _ _ (λ q. refl) (λ _.
       if_cases (Value P s) (eqb x.kind 19) _ _ (λ q. refl) (λ _.
-      if_cases (Value P s) (eqb x.kind 20) _ _ (λ q. both_true _ _ (lt-ltb _ _ l) q) (λ _.
-      if_cases (Value P s) (eqb x.kind 21) _ _ (λ q. both_true _ _ (lt-ltb _ _ l) q) (λ _.
+      if_cases (Value P s) (eqb x.kind 20) _ _ (λ q. both_in (lt-ltb _ _ l) q) (λ _.
+      if_cases (Value P s) (eqb x.kind 21) _ _ (λ q. both_in (lt-ltb _ _ l) q) (λ _.
       if_cases (Value P s) (eqb x.kind 23) _ _
-      (λ q. if_cases (Value P s) (leb (le_at 2 b 0) 2) _ _ (λ t. both_true _ _ t refl)
-      (λ t. both_true _ _ (both_true _ _ (lt-ltb _ _ l) q) (eq-eqb (le_at 2 b 0) 3 (omega (arith, leb-false (le_at 2 b 0) 2 t, f.effect (eqb-true _ 23 q)))))) (λ _. null_value))))))
+      (λ q. if_cases (Value P s) (leb (le_at 2 b 0) 2) _ _ (λ t. both_in t refl)
+      (λ t. both_in (both_in (lt-ltb _ _ l) q) (eq-eqb (le_at 2 b 0) 3 (omega (arith, leb-false (le_at 2 b 0) 2 t, f.effect (eqb-true _ 23 q)))))) (λ _. null_value))))))
 
   pub new_list : (vs : List Cell) → Value P (s ++ (list vs ∷ [])) (list_at (used s))
   unfolding is_value both is_list_at

@@ -4,7 +4,7 @@ use Rattle.std.proofs.Common.{sym, ap, subst, ◌∙◌, arith, set-set, take-su
 use Rattle.std.proofs.lemmas.List.{length-map}
 use Rattle.std.proofs.Math.ListN.{get_or-map}
 use Rattle.cells.specs.Cells.{null, room, cells, Sound, Writes}
-use Rattle.cells.specs.CellsLaws.{length_cells}
+use Rattle.cells.specs.CellsLaws.{length_cells, same_cells}
 use Rattle.cells.specs.Le.{le_at}
 use Rattle.cells.specs.declared.Cell.{Cell}
 use Rattle.image.specs.Program.{Code}
@@ -29,7 +29,8 @@ use Rattle.plan.proofs.Appended.{appends_none, appends_refl, appends_again, appe
 use Rattle.plan.specs.Inside.{Inside}
 use Rattle.plan.proofs.InsideLaws.{runs_fits}
 use Rattle.makes.specs.Made.{Named, Closable, MakesClosure, Capturable, Captured}
-use Rattle.makes.specs.Lists.{still, same_cells, no_live_lem, no_store_lem, made_on}
+use Rattle.plan.proofs.RestLaws.{same_refl}
+use Rattle.makes.specs.Lists.{no_live_lem, no_store_lem, made_on}
 use Rattle.refusals.specs.declared.Refusal.TheVariants.{LiveFull, StoreFull}
 
 -- ---- A capture is read
@@ -153,7 +154,7 @@ module _ {g : registers.Running} {handle u x code : ℕ} {live store : List ℕ}
   pub closure_no_live : {P : Program} → a ≤ e → MakesClosure P g handle u x code (Err LiveFull) live store live store
   closure_no_live le = record {
     next = λ z m r i q w h v. (no_live_lem i _ _ _ (takes_closure (record { inside = i; accepted = q; uses = w; closure = h; named = v })) i.runs (omega (arith, length_cells live)), refl, refl);
-    same_live = still live;
+    same_live = same_refl live;
     appends = appends_refl u store;
   }
 
@@ -163,7 +164,7 @@ module _ {g : registers.Running} {handle u x code : ℕ} {live store : List ℕ}
     next = λ z m r i q w h v.
         let k : Making (program_in image rows constants inner codes) g handle u x code (cells live) (cells store) z m r = record { inside = i; accepted = q; uses = w; closure = h; named = v } in
         (no_store_lem i _ _ _ (takes_closure k) i.runs (omega (arith, length_cells live)) (omega (arith, closure_cost (tabled image rows constants inner codes) k, length_cells store, c.0)), refl, refl);
-    same_live = still live;
+    same_live = same_refl live;
     appends = appends_refl u store;
   }
 
@@ -282,9 +283,9 @@ module _ {P : Program} {image rows : List ℕ} {g : registers.Running} {handle u
     }
 
   -- all are put, and the closure is pushed
-  pub closure_made : {old live' : List ℕ} {g' : registers.Running} → Writes old (set (cells old) u (cell 128 code n)) store → n ≤ i → Turns (pushed (cell 7 u 0)) g live g' live'
+  pub closure_made : {old live' : List ℕ} {f : Cell} {g' : registers.Running} → Writes old (set (cells old) u (cell 128 code n)) store → n ≤ i → f ≡ cell 7 u 0 → Turns (pushed f) g live g' live'
       → MakesClosure P g handle u x code (Ok (record { g = g'; used = u + 1 + n })) live old live' new
-  closure_made {old} {live'} {g'} b le t = record {
+  closure_made {old} {live'} {g' = g'} b le c t' = let t = subst (λ (v : Cell). Turns (pushed v) g live g' live') c t' in record {
     next = λ z m r y q w h v.
         let lt : u < room old = omega (arith, o.fits, b.len) in
         let k : Here z m r = making_begun n lt b (record { inside = y; accepted = q; uses = w; closure = h; named = v }) in

@@ -1,12 +1,12 @@
 -- An object that is made and pushed, judged by where frame and store would end; and one law for each answer of 10 `BuildList`.
-use Rattle.std.specs.Prelude.{◌≡◌, List, [], ◌∷◌, ◌++◌, reverse, ℕ, ◌+◌, ◌-◌, ◌/◌, ◌<◌, ◌≤◌, length, take, drop, Ok, Err}
+use Rattle.std.specs.Prelude.{◌≡◌, List, [], ◌∷◌, ◌++◌, reverse, ℕ, ◌+◌, ◌-◌, ◌<◌, ◌≤◌, length, take, drop, Ok, Err}
 use Rattle.std.proofs.Math.Path.{refl, ap}
-use Rattle.std.proofs.Common.{sym, subst, ◌∙◌, arith, le-leb}
+use Rattle.std.proofs.Common.{subst, ◌∙◌, arith, le-leb}
 use Rattle.std.proofs.Math.ListN.{length-reverse}
 use Rattle.std.proofs.Math.Seq.{length-take-le}
 use Rattle.std.proofs.lemmas.Bool.{lt-leb}
 use Rattle.cells.specs.Cells.{cells, room, Writes}
-use Rattle.cells.specs.CellsLaws.{length_cells}
+use Rattle.cells.specs.CellsLaws.{length_cells, same_cells}
 use Rattle.cells.specs.declared.Cell.{Cell}
 use Rattle.machine.specs.Values.{Program, cell, list_at}
 use Rattle.machine.specs.Machine.{Object, list, Result, M, with_store, frame_cost, frames_cost, result_cost, cost, used}
@@ -16,7 +16,7 @@ use Rattle.machine.specs.Calls.{Sizes, handlers_left, stops, outcome}
 use Rattle.moves.specs.Runs.{Runs, Turns, with_counts, end_of, pushed, pop_top, values_there}
 use Rattle.moves.specs.Objects.{Stored, made, list_stored}
 use Rattle.moves.specs.declared.Running as registers
-use Rattle.plan.specs.Rest.{Same}
+use Rattle.plan.proofs.RestLaws.{same_refl}
 use Rattle.plan.proofs.Appended.{appends_refl, appends_made}
 use Rattle.plan.specs.Inside.{Inside}
 use Rattle.plan.proofs.InsideLaws.{judge_does, judge_live, judge_store, runs_cost, runs_fits}
@@ -24,13 +24,7 @@ use Rattle.makes.specs.Made.{MadeOn, Makes}
 use Rattle.refusals.specs.declared.Refusal.TheVariants.{FewValues, LiveFull, StoreFull}
 
 -- no byte changes
-pub still : (s : List ℕ) → Same s s
-still s = record { rest = refl; len = refl }
-
 -- as many bytes, as many cells
-pub same_cells : (s t : List ℕ) → length t ≡ length s → length (cells t) ≡ length (cells s)
-same_cells s t e = length_cells t ∙ ap (λ (n : ℕ). n / 16) e ∙ sym (length_cells s)
-
 -- ---- An object is made
 -- a machine that runs has no result
 pub no_result : {P : Program} {z : Sizes} {m : M} {r : Running} {g : registers.Running} {L S : List Cell} → Inside P z m r g L S → result_cost m.result ≡ 0
@@ -102,14 +96,14 @@ module _ {P : Program} {z : Sizes} {m : M} {r : Running} {g : registers.Running}
 module _ {x : ℕ} {g : registers.Running} {u : ℕ} {live store : List ℕ} where
   pub list_few : g.stack < x → (P : Program) → Makes P 10 x g u (Err FewValues) live store live store
   unfolding outcome
-  list_few lt P = record { next = λ z m r i e. (ap (λ (t : Taken). outcome P z t m) (takes_none i x lt), refl, refl); same_live = still live; appends = appends_refl u store }
+  list_few lt P = record { next = λ z m r i e. (ap (λ (t : Taken). outcome P z t m) (takes_none i x lt), refl, refl); same_live = same_refl live; appends = appends_refl u store }
 
   module _ (le : x ≤ g.stack) {h : registers.Running} (d : h ≡ with_counts g.handlers (g.stack - x) g) where
     module _ {e n : ℕ} (a : e ≡ end_of h) (b : n ≡ room live) where
       pub list_no_live : n ≤ e → (P : Program) → Makes P 10 x g u (Err LiveFull) live store live store
       list_no_live l P = record {
         next = λ z m r i w. (no_live_lem i _ _ _ (takes_list i x le) (popped i x le d) (omega (arith, length_cells live)), refl, refl);
-        same_live = still live;
+        same_live = same_refl live;
         appends = appends_refl u store;
       }
 
@@ -117,13 +111,13 @@ module _ {x : ℕ} {g : registers.Running} {u : ℕ} {live store : List ℕ} whe
       list_no_store l c s f P = record {
         next = λ z m r i w.
             (no_store_lem i _ _ _ (takes_list i x le) (popped i x le d) (omega (arith, length_cells live)) (omega (arith, list_cost i x le, length_cells store)), refl, refl);
-        same_live = still live;
+        same_live = same_refl live;
         appends = appends_refl u store;
       }
 
-    pub list_made : {e k : ℕ} {g' : registers.Running} {live' store' : List ℕ} → e ≡ end_of h → k ≡ room store → u ≤ room store → 1 + x ≤ k - u
-        → Writes store (made (cells store) u 129 0 (cells live) e x) store' → Turns (pushed (cell 6 u 0)) h live g' live' → (P : Program) → Makes P 10 x g u (Ok (record { g = g'; used = u + 1 + x })) live store live' store'
-    list_made {e} {g' = g'} {live'} {store'} a c s f w t P = record {
+    pub list_made : {e k : ℕ} {v : Cell} {g' : registers.Running} {live' store' : List ℕ} → e ≡ end_of h → k ≡ room store → u ≤ room store → 1 + x ≤ k - u
+        → Writes store (made (cells store) u 129 0 (cells live) e x) store' → v ≡ cell 6 u 0 → Turns (pushed v) h live g' live' → (P : Program) → Makes P 10 x g u (Ok (record { g = g'; used = u + 1 + x })) live store live' store'
+    list_made {e} {g' = g'} {live'} {store'} a c s f w l t' P = let t = subst (λ (v : Cell). Turns (pushed v) h live g' live') l t' in record {
       next = λ z m r i q.
           let n = list_cost i x le in
           let v : e ≡ end_of g - x = omega (arith, ap (λ (y : registers.Running). end_of y) d) in

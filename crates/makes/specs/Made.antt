@@ -16,7 +16,7 @@ use Rattle.moves.specs.declared.Running as registers
 use Rattle.plan.specs.Rest.{Same, Appends, Block}
 use Rattle.plan.specs.Inside.{Inside, left}
 use Rattle.plan.specs.declared.Next.{Next}
-use Rattle.plan.specs.declared.Next.TheVariants.{Goes, Jumps, Throws, Stops}
+use Rattle.plan.specs.declared.Next.TheVariants.{Goes, Jumps, Throws}
 use Rattle.makes.specs.declared.Made.{Made}
 use Rattle.refusals.specs.declared.Refusal.{Refusal}
 use Rattle.refusals.specs.Refusals.{number}
@@ -102,12 +102,12 @@ pub record SetOn (P : Program) (o : Outcome) (m : M) (r : Running) (g : register
   pub runs : Runs r.handle place locals stack handlers r.below g L
   pub block : Block after B
 
-abbrev pub Sets : Program → Sizes → ℕ → M → Running → Next → List ℕ → List ℕ → List ℕ → Type 0
-Sets P z x m r (Goes g) live state state' = SetOn P (outcome P z (opcode_action P m r 8 x) m) m r g (cells live) (cells state')
-Sets P z x m r (Jumps g) live state state' = ⊥
-Sets P z x m r (Throws g e) live state state' = ⊥
-Sets P z x m r (Stops n) live state state' = (outcome P z (opcode_action P m r 8 x) m ≡ stops (number n)) × (state' ≡ state)
+abbrev pub Sets : Program → Sizes → ℕ → M → Running → Result Next Refusal → List ℕ → List ℕ → List ℕ → Type 0
+Sets P z x m r (Ok (Goes g)) live state state' = SetOn P (outcome P z (opcode_action P m r 8 x) m) m r g (cells live) (cells state')
+Sets P z x m r (Ok (Jumps g)) live state state' = ⊥
+Sets P z x m r (Ok (Throws g e)) live state state' = ⊥
+Sets P z x m r (Err n) live state state' = (outcome P z (opcode_action P m r 8 x) m ≡ stops (number n)) × (state' ≡ state)
 
-pub record SetsGlobal (P : Program) (g : registers.Running) (x name : ℕ) (n : Next) (live state state' : List ℕ) : Type 0 where
+pub record SetsGlobal (P : Program) (g : registers.Running) (x name : ℕ) (n : Result Next Refusal) (live state state' : List ℕ) : Type 0 where
   pub next : (z : Sizes) (m : M) (r : Running) (S : List Cell) → Inside P z m r g (cells live) S → Block m (cells state) → name ≡ get_or r.code.globals x 0 → Sets P z x m r n live state state'
   pub same : Same state state'

@@ -6,9 +6,11 @@ ghost use Rattle.cells.specs.Cells.{room};
 ghost use Rattle.machine.specs.Values.{Program};
 ghost use Rattle.moves.specs.Runs.{end_of};
 ghost use Rattle.scan.specs.Tables.{program_of};
+ghost use Rattle.image.specs.Layout.{flat};
 ghost use Rattle.makes.specs.Made.{Makes, Capturable, Closable, MakesClosure, Captured, SetsGlobal};
 
-use cells::Cell;
+use cells::{Cell, Tag};
+use image::CaptureFrom;
 use moves::Running;
 use plan::Next;
 use refusals::Refusal;
@@ -42,13 +44,16 @@ pub fn build_list(
     if cells::room(store) - used < 1 + n {
         return Err(Refusal::StoreFull);
     }
-    objects::new_object(store, used, 129, 0, live, moves::end(h), n);
-    let list = Cell {
-        tag: 6,
-        number: used as u32,
-        payload: 0,
-    };
-    let g = moves::push(live, h, list);
+    objects::new_object(
+        store,
+        used,
+        Tag::ObjectList as u32,
+        0,
+        live,
+        moves::end(h),
+        n,
+    );
+    let g = moves::push(live, h, Cell::new(Tag::List, used as u32, 0));
     Ok(Made {
         g,
         used: used + 1 + n,
@@ -65,11 +70,11 @@ fn captured(
     code: usize,
     i: usize,
 ) -> Cell
-    requires { Capturable program.now.image.now program.now.rows.now g handle code i live.now store.now }
-    ensures { Captured program.now.image.now program.now.rows.now g handle code i live.now store.now result }
+    requires { Capturable program.now.image.now (flat program.now.rows.now) g handle code i live.now store.now }
+    ensures { Captured program.now.image.now (flat program.now.rows.now) g handle code i live.now store.now result }
 {
     let c = program.capture(code, i);
-    if c.from == 0 {
+    if c.from == CaptureFrom::Local as u16 {
         return moves::local(live, g, c.index as usize);
     }
     objects::upvalue(store, handle, c.index as usize)
@@ -101,12 +106,7 @@ pub fn make_closure(
         let v = captured(program, live, store, g, handle, code, i);
         cells::put(store, used + 1 + i, v);
     }
-    let closure = Cell {
-        tag: 7,
-        number: used as u32,
-        payload: 0,
-    };
-    let g = moves::push(live, g, closure);
+    let g = moves::push(live, g, Cell::new(Tag::Closure, used as u32, 0));
     Ok(Made {
         g,
         used: used + 1 + n,
@@ -114,14 +114,20 @@ pub fn make_closure(
 }
 
 // 8 `StoreGlobal` of name x of the code.
-pub fn store_global(state: &mut [u8], live: &[u8], g: Running, x: u32, name: u16) -> Next
+pub fn store_global(
+    state: &mut [u8],
+    live: &[u8],
+    g: Running,
+    x: u32,
+    name: u16,
+) -> Result<Next, Refusal>
     requires { (end_of g ≤ room live.now) × (length state.old ≡ 8256) × (name < 256) }
     ensures { (P : Program) → SetsGlobal P g x name result live.now state.old state.new }
 {
     if g.stack == 0 {
-        return Next::Stops(Refusal::FewValues);
+        return Err(Refusal::FewValues);
     }
     let v = moves::top(live, g, 0);
     states::set_global(state, name as usize, v);
-    Next::Goes(g.dropped(1))
+    Ok(Next::Goes(g.dropped(1)))
 }

@@ -12,7 +12,7 @@ use Rattle.cells.specs.Cells.{null}
 use Rattle.cells.specs.declared.Cell.{Cell}
 use Rattle.image.specs.Records.{both}
 use Rattle.image.specs.Program.{all}
-use Rattle.image.proofs.Parts.{first, second}
+use Rattle.image.proofs.Parts.{first, second, both_in}
 use Rattle.machine.specs.Values.{Program}
 use Rattle.machine.specs.Machine.{Frame, Object, Result, frames_cost, used, result_cost}
 use Rattle.machine.specs.Calls.{Sizes, World, are_values}
@@ -22,7 +22,7 @@ use Rattle.memory.specs.Layout.{flat, store_cells, Shown, bit, result_shown, sta
 use Rattle.memory.specs.View.{frames_at, frames_size, objects_at, bit_of, read_result, view}
 use Rattle.memory.specs.Tests.{value_fits, top_kind, turn_fits, live_fits, in_form}
 use Rattle.memory.specs.Reads.{Reads}
-use Rattle.memory.proofs.Lists.{join, length_flat}
+use Rattle.memory.proofs.Lists.{length_flat}
 use Rattle.memory.proofs.FrameLaws.{values_append, values_are, frames_in, frames_out}
 use Rattle.memory.specs.StoreLaws.{Stocked}
 use Rattle.memory.proofs.StoreLaws.{stocked_reads, store_in, store_out, length_store, reads}
@@ -217,8 +217,8 @@ module _ (P : Program) (w : World) (st lv S : List Cell) (h : Holds w st lv S) (
       let turn : turn_fits (top_kind (length the_frames) the_result.kind lv) (bit w.wait) w.slice ≡ true =
       rw (live_is_lem, top_is P the_store S (used the_store) reads_store w.machine.result the_frames _ f.frames) (turn_out (top_of w.machine.result the_frames) w.wait w.slice f.turn) in
       let tables : all (value_fits P S (used the_store)) (w.machine.globals ++ w.machine.builtins) ≡ true =
-      values_are P the_store S (used the_store) reads_store _ ∙ values_append P the_store w.machine.globals w.machine.builtins ∙ join f.globals.1 f.builtins.1 in
-      join (store_out P S the_store h.free_store h.store f.store).0 (join live_of.fits (join result_of_lem.fits (join turn tables)))
+      values_are P the_store S (used the_store) reads_store _ ∙ values_append P the_store w.machine.globals w.machine.builtins ∙ both_in f.globals.1 f.builtins.1 in
+      both_in (store_out P S the_store h.free_store h.store f.store).0 (both_in live_of.fits (both_in result_of_lem.fits (both_in turn tables)))
 
   written_seen : view (state_cells w) lv S ≡ w
   unfolding view

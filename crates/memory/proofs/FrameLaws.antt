@@ -7,6 +7,7 @@ use Rattle.std.proofs.Math.Bool.{true, false}
 use Prim.Native.Nat.{ℕ, zero, suc, ◌+◌, ◌<◌, ◌≤◌}
 use native.Mathlib.Omega.{arith}
 use Rattle.std.proofs.Math.ListN.{length, drop, length-append, length-map}
+use Rattle.std.proofs.lemmas.List.{nil_from_length}
 use Rattle.std.proofs.Math.Seq.{drop_at}
 use Rattle.std.proofs.Math.Dec.{eqb}
 use borrow.Author.Tests.{eqb-true, ltb-true, lt-ltb, eq-eqb, ne_eqb}
@@ -14,7 +15,8 @@ use Rattle.cells.specs.Cells.{null}
 use Rattle.cells.specs.declared.Cell.{Cell}
 use Rattle.image.specs.Records.{if?, both}
 use Rattle.image.specs.Program.{all}
-use Rattle.image.proofs.Parts.{first, second, clash}
+use Rattle.std.proofs.lemmas.Bool.{false≢true}
+use Rattle.image.proofs.Parts.{first, second, both_in}
 use Rattle.machine.specs.Values.{Program, code_of, closure_at}
 use Rattle.machine.specs.Machine.{Handler, Frame, lucia, host, effect_callback, Object, closure, frame_cost, frames_cost, Lookup, here, absent, list, continuation, object_at, effects, handlers_of}
 use Rattle.machine.specs.Calls.{is_closure_at, is_value, are_values, are_effects}
@@ -22,12 +24,13 @@ use Rattle.machine.specs.Demand.{All}
 use Rattle.machine.proofs.Formed.{all_append}
 use Rattle.machine.specs.Form.{FrameFits, values_of, effects_of}
 use Rattle.machine.proofs.StepLaws.{if_cases}
+use Rattle.machine.proofs.Refusals.{effects_length}
 use Rattle.memory.specs.Layout.{Written, untargeted, written, head_cells, handler_cells, written_cells, frame_cells, flat}
 use Rattle.memory.specs.View.{frame_size, frames_size, written_at, read_frame, frame_at, frames_at}
 use Rattle.memory.specs.Tests.{callback_fits, target_fits, value_fits, effect_fits, lucia_fits, kind_fits, limit_of, frame_fits, frames_fit}
 use Rattle.memory.specs.Reads.{Reads}
 use Rattle.memory.specs.Lists.{written_cost}
-use Rattle.memory.proofs.Lists.{join, tests_append, tests_reverse, cost_written, length_frame, flat_append, cost_append, effects_untargeted, read_written, written_read, frames_onto}
+use Rattle.memory.proofs.Lists.{tests_append, tests_reverse, cost_written, length_frame, flat_append, cost_append, effects_untargeted, read_written, written_read, frames_onto}
 use Rattle.memory.specs.FrameTests.{target_below}
 use Rattle.memory.proofs.FrameTests.{handler_fits, WrittenFits, test_in, test_out, cells_read, size_read}
 use Rattle.memory.specs.FrameLaws.{FramesRead, FramesWritten, inner}
@@ -45,21 +48,12 @@ module _ (P : Program) (s : List Object) where
   pub values_reverse : (vs : List Cell) → are_values P s (reverse vs) ≡ are_values P s vs
   values_reverse vs = sym (values_all (reverse vs)) ∙ tests_reverse (is_value P s) vs ∙ values_all vs
 
-length_effects : (hs : List Handler) → length (effects hs) ≡ length hs
-unfolding effects
-length_effects [] = refl
-length_effects (h ∷ hs) = ap suc (length_effects hs)
-
-pub none : (l : List Cell) → length l ≡ 0 → l ≡ []
-none [] e = refl
-none (c ∷ l) e = absurd (omega arith)
-
 closure_there_lem : (l : Lookup) → is_closure_at l ≡ true → (c : ℕ) × (us : List Cell) × (l ≡ here (closure c us))
 unfolding is_closure_at
 closure_there_lem (here (closure c us)) t = (c, us, refl)
-closure_there_lem (here (list vs)) t = absurd (clash t)
-closure_there_lem (here (continuation K)) t = absurd (clash t)
-closure_there_lem absent t = absurd (clash t)
+closure_there_lem (here (list vs)) t = absurd (false≢true t)
+closure_there_lem (here (continuation K)) t = absurd (false≢true t)
+closure_there_lem absent t = absurd (false≢true t)
 
 -- the frames fs in front of m more are read and tested like those m
 record Before (P : Program) (S : List Cell) (b : ℕ) (fs : List Frame) (m : ℕ) (rest : List Cell) : Type 0 where
@@ -84,13 +78,13 @@ module _ (P : Program) (s : List Object) (S : List Cell) (b : ℕ) (k : Reads s 
   named_in limit (h ∷ hs) t =
       let e = first _ _ (first _ _ t) in
       let r = named_in limit hs (second _ _ t) in
-      (join (sym (value_is_lem h.effect) ∙ second _ _ e) r.0, join (first _ _ e) r.1)
+      (both_in (sym (value_is_lem h.effect) ∙ second _ _ e) r.0, both_in (first _ _ e) r.1)
 
   named_out : (limit : ℕ) (hs : List Handler) → are_values P s (effects hs) ≡ true → are_effects (effects hs) ≡ true
       → All (λ (h : Handler). target_below limit h ≡ true) hs → all (handler_fits P S b limit) hs ≡ true
   unfolding all effects are_values are_effects effect_fits
   named_out limit [] v e t = refl
-  named_out limit (h ∷ hs) v e t = join (join (join (first _ _ e) (value_is_lem h.effect ∙ first _ _ v)) t.0) (named_out limit hs (second _ _ v) (second _ _ e) t.1)
+  named_out limit (h ∷ hs) v e t = both_in (both_in (both_in (first _ _ e) (value_is_lem h.effect ∙ first _ _ v)) t.0) (named_out limit hs (second _ _ v) (second _ _ e) t.1)
 
   targets_in : (limit : ℕ) (hs : List Handler) → 0 < limit → all (handler_fits P S b limit) hs ≡ true → All (λ (h : Handler). h.target < limit) hs
   unfolding all target_fits
@@ -128,7 +122,7 @@ module _ (P : Program) (s : List Object) (S : List Cell) (b : ℕ) (k : Reads s 
     Means f = FrameFits P s f × (written f ≡ w)
 
     few_effects : length (effects w.handlers) ≤ 16
-    few_effects = omega (arith, o.few, length_effects w.handlers)
+    few_effects = omega (arith, o.few, effects_length w.handlers)
 
     lucia_in : eqb w.kind 64 ≡ true → lucia_fits P S b (head_cells w) ≡ true → Means (lucia w.subject.number w.place w.locals w.stack w.handlers)
     unfolding lucia_fits limit_of written handlers_of values_of effects_of
@@ -156,7 +150,7 @@ module _ (P : Program) (s : List Object) (S : List Cell) (b : ℕ) (k : Reads s 
               };
               handlers = few_effects;
             };
-            values = values_append P s w.locals w.stack ∙ join (sym (values_are w.locals) ∙ o.values) (sym (values_are w.stack) ∙ o.above);
+            values = values_append P s w.locals w.stack ∙ both_in (sym (values_are w.locals) ∙ o.values) (sym (values_are w.stack) ∙ o.above);
             named = named.0;
             effects = named.1;
           },
@@ -171,7 +165,7 @@ module _ (P : Program) (s : List Object) (S : List Cell) (b : ℕ) (k : Reads s 
 
       no_locals : [] ≡ w.locals
       unfolding callback_fits
-      no_locals = sym (none w.locals (eqb-true (length w.locals) 0 (second _ _ (second _ _ t))))
+      no_locals = sym (nil_from_length w.locals (eqb-true (length w.locals) 0 (second _ _ (second _ _ t))))
 
       no_targets : all (handler_fits P S b 0) w.handlers ≡ true
       unfolding limit_of
@@ -206,8 +200,8 @@ module _ (P : Program) (s : List Object) (S : List Cell) (b : ℕ) (k : Reads s 
           record {
             formed = record { stands = tt; handlers = few_effects };
             values = sym (values_are w.stack) ∙ o.above;
-            named = join (sym (value_is_lem w.subject) ∙ second _ _ e) named.0;
-            effects = join (first _ _ e) named.1;
+            named = both_in (sym (value_is_lem w.subject) ∙ second _ _ e) named.0;
+            effects = both_in (first _ _ e) named.1;
           },
           λ j. record { kind = sym kind j; subject = w.subject; place = no_place _ q t j; locals = no_locals _ q t j; handlers = untargeted_in w.handlers hs j; stack = w.stack },
         )
@@ -236,8 +230,8 @@ module _ (P : Program) (s : List Object) (S : List Cell) (b : ℕ) (k : Reads s 
       let c : (get_or S h null).number ≡ i.code = k.codes h _ _ i.closure_there in
       let v = sym (values_append P s l st) ∙ o.values in
       record {
-        kinds = join (join refl refl) (join (k.closures h ∙ ap is_closure_at i.closure_there) (rw c (join (lt-ltb _ _ i.known) (join (lt-ltb _ _ i.place) (eq-eqb _ _ i.locals)))));
-        few = omega (arith, o.formed.handlers, length_effects hs);
+        kinds = both_in (both_in refl refl) (both_in (k.closures h ∙ ap is_closure_at i.closure_there) (rw c (both_in (lt-ltb _ _ i.known) (both_in (lt-ltb _ _ i.place) (eq-eqb _ _ i.locals)))));
+        few = omega (arith, o.formed.handlers, effects_length hs);
         values = values_are l ∙ first _ _ v;
         targets = rw c (named_out _ hs o.named o.effects (targets_out _ hs (omega (arith, i.place)) i.targets));
         above = values_are st ∙ second _ _ v;
@@ -247,14 +241,14 @@ module _ (P : Program) (s : List Object) (S : List Cell) (b : ℕ) (k : Reads s 
   unfolding written kind_fits callback_fits effect_fits limit_of handlers_of values_of effects_of are_values are_effects all
   fits_out (lucia h p l st hs) o = lucia_out h p l st hs o
   fits_out (host n u st es) o = record {
-    kinds = join refl (join refl refl);
+    kinds = both_in refl (both_in refl refl);
     few = omega (arith, o.formed.handlers, length-map es untargeted);
     values = refl;
     targets = callback_out es o.named o.effects;
     above = values_are st ∙ o.values;
   }
   fits_out (effect_callback e st es) o = record {
-    kinds = join refl (join (join (first _ _ o.effects) (value_is_lem e ∙ first _ _ o.named)) (join refl refl));
+    kinds = both_in refl (both_in (both_in (first _ _ o.effects) (value_is_lem e ∙ first _ _ o.named)) (both_in refl refl));
     few = omega (arith, o.formed.handlers, length-map es untargeted);
     values = refl;
     targets = callback_out es (second _ _ o.named) (second _ _ o.effects);
@@ -340,20 +334,20 @@ module _ (P : Program) (s : List Object) where
   pub values_inner : (vs : List Cell) → are_values P s vs ≡ true → all inner vs ≡ true
   unfolding are_values all
   values_inner [] t = refl
-  values_inner (v ∷ vs) t = join (value_inner v (first _ _ t)) (values_inner vs (second _ _ t))
+  values_inner (v ∷ vs) t = both_in (value_inner v (first _ _ t)) (values_inner vs (second _ _ t))
 
   handlers_inner : (hs : List Handler) → are_values P s (effects hs) ≡ true → all inner (handler_cells hs) ≡ true
   unfolding are_values all effects handler_cells
   handlers_inner [] t = refl
-  handlers_inner (h ∷ hs) t = join (value_inner h.effect (first _ _ t)) (join refl (handlers_inner hs (second _ _ t)))
+  handlers_inner (h ∷ hs) t = both_in (value_inner h.effect (first _ _ t)) (both_in refl (handlers_inner hs (second _ _ t)))
 
   written_inner : (w : Written) → w.kind < 128 → inner w.subject ≡ true → are_values P s (w.locals ++ w.stack) ≡ true → are_values P s (effects w.handlers) ≡ true → all inner (written_cells w) ≡ true
   unfolding all
   written_inner w l i v h =
       let u = sym (values_append P s w.locals w.stack) ∙ v in
-      let e = tests_append inner (handler_cells w.handlers) (reverse w.stack) ∙ join (handlers_inner w.handlers h) (tests_reverse inner w.stack ∙ values_inner w.stack (second _ _ u)) in
-      let d = tests_append inner w.locals (handler_cells w.handlers ++ reverse w.stack) ∙ join (values_inner w.locals (first _ _ u)) e in
-      join (lt-ltb w.kind 128 l) (join i (join refl (join refl (join refl (join refl d)))))
+      let e = tests_append inner (handler_cells w.handlers) (reverse w.stack) ∙ both_in (handlers_inner w.handlers h) (tests_reverse inner w.stack ∙ values_inner w.stack (second _ _ u)) in
+      let d = tests_append inner w.locals (handler_cells w.handlers ++ reverse w.stack) ∙ both_in (values_inner w.locals (first _ _ u)) e in
+      both_in (lt-ltb w.kind 128 l) (both_in i (both_in refl (both_in refl (both_in refl (both_in refl d)))))
 
   frame_inner : (f : Frame) → FrameFits P s f → all inner (frame_cells f) ≡ true
   unfolding written values_of effects_of are_values
@@ -365,4 +359,4 @@ module _ (P : Program) (s : List Object) where
   pub flat_inner : (fs : List Frame) → All (FrameFits P s) fs → all inner (flat fs) ≡ true
   unfolding flat all
   flat_inner [] o = refl
-  flat_inner (f ∷ fs) o = tests_append inner (flat fs) (frame_cells f) ∙ join (flat_inner fs o.1) (frame_inner f o.0)
+  flat_inner (f ∷ fs) o = tests_append inner (flat fs) (frame_cells f) ∙ both_in (flat_inner fs o.1) (frame_inner f o.0)

@@ -13,14 +13,14 @@ use Rattle.cells.specs.Cells.{null}
 use Rattle.cells.specs.declared.Cell.{Cell}
 use Rattle.image.specs.Records.{both}
 use Rattle.image.specs.Program.{all}
-use Rattle.image.proofs.Parts.{first, second}
+use Rattle.image.proofs.Parts.{first, second, both_in}
 use Rattle.machine.specs.Values.{Program}
 use Rattle.machine.specs.Machine.{Handler}
 use Rattle.memory.specs.Layout.{Written, head_cells, handler_cells, written_cells}
 use Rattle.memory.specs.View.{locals_of, stack_of, frame_size, handlers_at, written_at}
 use Rattle.memory.specs.Tests.{is_null_cell, callback_fits, spare_fits, target_fits, value_fits, effect_fits, lucia_fits, kind_fits, limit_of, handlers_fit, head_fits, body_fits, frame_fits}
 use Rattle.memory.specs.Lists.{written_cost}
-use Rattle.memory.proofs.Lists.{join, tests_reverse, length_written, length_read, behind, locals_there, handlers_there, stack_taken}
+use Rattle.memory.proofs.Lists.{tests_reverse, length_written, length_read, behind, locals_there, handlers_there, stack_taken}
 use Rattle.memory.specs.FrameTests.{target_below}
 
 pub is_null_lem : (c : Cell) → is_null_cell c ≡ true → c ≡ null
@@ -87,8 +87,8 @@ module _ (P : Program) (S : List Cell) (b : ℕ) where
     unfolding frame_fits head_fits
     test_out o =
         let n : written_cost w ≤ length (written_cells w ++ rest) = omega (arith, length_written w, length-append (written_cells w) rest) in
-        join (join (le-leb 6 (length (written_cells w ++ rest)) (omega arith)) (join spare_there (join (kind_same ∙ o.kinds) (le-leb _ _ o.few))))
-        (join (le-leb _ _ n) (body_test ∙ join o.values (join o.targets o.above)))
+        both_in (both_in (le-leb 6 (length (written_cells w ++ rest)) (omega arith)) (both_in spare_there (both_in (kind_same ∙ o.kinds) (le-leb _ _ o.few))))
+        (both_in (le-leb _ _ n) (body_test ∙ both_in o.values (both_in o.targets o.above)))
 
   -- ---- Cells that pass are those that what is read off them is written as
   handlers_cells : (limit n : ℕ) (y : List Cell) → handlers_fit P S b limit n y ≡ true → 2 * n ≤ length y → y ≡ handler_cells (handlers_at n y) ++ drop (2 * n) y

@@ -7,7 +7,7 @@ use Rattle.std.proofs.lemmas.List.{length-reverse, length-map}
 use Rattle.cells.specs.declared.Cell.{Cell}
 use Rattle.image.specs.Records.{both}
 use Rattle.image.specs.Program.{all}
-use Rattle.image.proofs.Parts.{both_assoc}
+use Rattle.image.proofs.Parts.{both_assoc, both_true}
 use Rattle.machine.specs.Machine.{Handler, Frame, lucia, host, effect_callback, frame_cost, frames_cost, effects}
 use Rattle.memory.specs.Layout.{Written, untargeted, written, handler_cells, written_cells, frame_cells, flat}
 use Rattle.memory.specs.View.{frame_size, handlers_at, written_at, read_frame, frame_at, frames_at}
@@ -25,16 +25,6 @@ both_swap true true c = refl
 both_swap true false c = refl
 both_swap false true c = refl
 both_swap false false c = refl
-
--- two tests that hold hold together
-pub join : {a b : Bool} → a ≡ true → b ≡ true → both a b ≡ true
-unfolding both
-join {a} {b} p q = rw (p, q)
-
-both_true : (a : Bool) → both a true ≡ a
-unfolding both
-both_true true = refl
-both_true false = refl
 
 module _ {A : Type 0} (f : A → Bool) where
   pub tests_append : (xs ys : List A) → all f (xs ++ ys) ≡ both (all f xs) (all f ys)

@@ -5,6 +5,7 @@ use Rattle.std.proofs.Common.{ap, ◌∙◌}
 use mathlib.Core.List.{List, [], ◌∷◌, ◌++◌, append_assoc}
 use Rattle.std.proofs.Math.Bool.{true, false}
 use native.Mathlib.Omega.{arith}
+use Rattle.std.proofs.lemmas.List.{nil_from_length}
 use Rattle.std.proofs.Math.Seq.{get_or_at}
 use Rattle.std.proofs.Math.Dec.{eqb}
 use Rattle.std.proofs.Math.Arith.{lt_of_le-ne}
@@ -25,7 +26,7 @@ use Rattle.memory.specs.Tests.{is_null_cell, value_fits, effect_fits, top_kind, 
 use Rattle.memory.specs.Reads.{Reads}
 use Rattle.memory.proofs.Lists.{length_flat}
 use Rattle.memory.proofs.FrameTests.{is_null_lem}
-use Rattle.memory.proofs.FrameLaws.{none, value_is_lem, frames_out}
+use Rattle.memory.proofs.FrameLaws.{value_is_lem, frames_out}
 use Rattle.memory.specs.StateLaws.{top_number, Shows, ResultOut}
 
 -- ---- Bits and choices
@@ -37,6 +38,14 @@ bit_of_lem (suc (suc n)) h = absurd (omega arith)
 pub of_bit : (u : Bool) → bit_of (bit u) ≡ u
 of_bit true = refl
 of_bit false = refl
+
+pub bit_true : (u : Bool) → (bit u ≡ 0 → ⊥) → u ≡ true
+bit_true true h = refl
+bit_true false h = absurd (h refl)
+
+pub bit_false : (u : Bool) → bit u ≡ 0 → u ≡ false
+bit_false true h = absurd (omega (arith, h))
+bit_false false h = refl
 
 bit_small : (u : Bool) → leb (bit u) 1 ≡ true
 bit_small true = refl
@@ -179,7 +188,7 @@ module _ (P : Program) (s : List Object) (S : List Cell) (b : ℕ) (k : Reads s 
 
     -- a result without arguments
     bare : {r : Result} → more.payload ≡ 0 → result_shown r ≡ shown_as kind v more.tag [] → ResultFits P s r → Shows P s shown_here r
-    bare z e w = record { is = e ∙ shown_same refl refl refl (sym (none args (l ∙ z))); fits = w }
+    bare z e w = record { is = e ∙ shown_same refl refl refl (sym (nil_from_length args (l ∙ z))); fits = w }
 
     pub result_in : are_values P s args ≡ true → result_fits P S b kind v more ≡ true → (more.number ≡ 0) × Shows P s shown_here (read_result shown_here)
     unfolding result_fits read_result read_error result_shown

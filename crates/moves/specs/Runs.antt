@@ -2,7 +2,7 @@
 use Rattle.std.specs.Prelude.{◌≡◌, refl, ℕ, zero, suc, ◌+◌, ◌-◌, ◌*◌, ◌<◌, ◌≤◌, length, get_or, set, take, drop}
 use Rattle.std.proofs.Common.{sym, ap, subst, ◌∙◌, arith, length-append, length-set, length-drop, take-append-drop, take_at, drop_at, drop-cons, get_or-append-add, length-take-le}
 use mathlib.Core.List.{List, [], ◌∷◌, ◌++◌, reverse, append_assoc, reverse-cons, reverse-append, reverse-reverse}
-use Rattle.std.proofs.lemmas.List.{length-reverse, set_at, get_or_at, set-append_left}
+use Rattle.std.proofs.lemmas.List.{length-reverse, nil_from_length, set_at, get_or_at, set-append_left}
 use Rattle.std.proofs.Math.ListN.{get_or-append}
 use Rattle.std.proofs.Math.Seq.{paste, take-append-add, append_snoc}
 use Rattle.cells.specs.Cells.{null, cells, rest, room, Writes, set_number, set_payload}
@@ -504,15 +504,11 @@ pub clears_none : {g : Running} (old : List ℕ) → g.handlers ≡ 0 → (g ≡
 clears_none {g} old e = (
   λ j. record { base = g.base; locals = g.locals; handlers = e j; stack = g.stack; place = g.place },
   record {
-    top = λ w pre o. subst (λ (hs : List Handler). Top (with_handlers hs w) pre g (cells old)) (none w.handlers (sym o.counts.handlers ∙ e)) o;
+    top = λ w pre o. subst (λ (hs : List Handler). Top (with_handlers hs w) pre g (cells old)) (nil_from_length w.handlers (sym o.counts.handlers ∙ e)) o;
     rest = refl;
     len = refl;
   },
 )
-  where
-    none : (hs : List Handler) → length hs ≡ 0 → hs ≡ []
-    none [] q = refl
-    none (h ∷ hs) q = absurd (omega arith)
 
 -- ---- What the code's writes come to
 turns_by : {f : Written → Written} {g r : Running} {old new : List ℕ} {l : List Cell} → Writes old l new → ((w : Written) (pre : List Cell) → Top w pre g (cells old) → Top (f w) pre r l) → Turns f g old r new

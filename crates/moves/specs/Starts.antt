@@ -20,14 +20,14 @@ pub record Starting (x : List Cell) (n : ℕ) (old : List ℕ) (r : ℕ) (new : 
   pub len : length new ≡ length old
 
 -- ---- One frame more
-frames_last : (i : ℕ) (x : List Cell) → frames_size (suc i) x ≡ frames_size i x + frame_size (drop (frames_size i x) x)
+pub frames_last : (i : ℕ) (x : List Cell) → frames_size (suc i) x ≡ frames_size i x + frame_size (drop (frames_size i x) x)
 unfolding frames_size
 frames_last zero x = omega arith
 frames_last (suc i) x =
     let y : List Cell = drop (frame_size x) x in
     omega (arith, frames_last i y, ap (λ (l : List Cell). frame_size l) (drop-drop (frames_size i y) (frame_size x) x))
 
-frames_up : (i n : ℕ) (x : List Cell) → i ≤ n → frames_size i x ≤ frames_size n x
+pub frames_up : (i n : ℕ) (x : List Cell) → i ≤ n → frames_size i x ≤ frames_size n x
 unfolding frames_size
 frames_up zero n x h = omega arith
 frames_up (suc i) zero x h = absurd (omega arith)

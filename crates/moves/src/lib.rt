@@ -8,7 +8,7 @@ ghost use Rattle.memory.specs.Layout.{Written};
 ghost use Rattle.moves.specs.Runs.{Top, Turns, Settles, stack_at, end_of, with_counts, opened, pushed, set_top, set_local, no_handler, add_handler, set_handler, clear_handlers};
 ghost use Rattle.moves.specs.Frames.{kept_in};
 
-use cells::Cell;
+use cells::{Cell, Tag};
 
 // The frame that runs: where it begins, its counts and its place. Its head need not show the last three until it is settled.
 #[derive(Clone, Copy)]
@@ -75,6 +75,7 @@ pub fn open(x: &[u8], base: usize) -> Running
 }
 
 // Its head shows the counts and the place again.
+#[tactic(auto, using(crate::specs::Runs::settled))]
 pub fn settle(live: &mut [u8], g: Running)
     requires { (g.base + 6 ≤ room live.old) × (g.place < 4294967296) }
     ensures { Settles g live.old live.new }
@@ -118,6 +119,7 @@ pub fn local(live: &[u8], g: Running, i: usize) -> Cell
 }
 
 // A local becomes v.
+#[tactic(auto, using(crate::specs::Runs::sets_local))]
 pub fn set_local(live: &mut [u8], g: Running, i: usize, v: Cell)
     requires { (i < g.locals) × (end_of g ≤ room live.old) }
     ensures { Turns (set_local i v) g live.old g live.new }
@@ -142,6 +144,7 @@ pub fn handler_target(live: &[u8], g: Running, i: usize) -> u32
 }
 
 // What is stored with a handler is replaced.
+#[tactic(auto, using(crate::specs::Runs::sets_handler))]
 pub fn set_handler(live: &mut [u8], g: Running, i: usize, target: u32, size: usize)
     requires { (i < g.handlers) × (end_of g ≤ room live.old) }
     ensures { Turns (set_handler i target size) g live.old g live.new }
@@ -149,11 +152,7 @@ pub fn set_handler(live: &mut [u8], g: Running, i: usize, target: u32, size: usi
     cells::put(
         live,
         g.base + 6 + g.locals + 2 * i + 1,
-        Cell {
-            tag: 67,
-            number: target,
-            payload: size as u64,
-        },
+        Cell::new(Tag::Handler, target, size as u64),
     );
 }
 
@@ -163,17 +162,9 @@ pub fn add_handler(live: &mut [u8], g: Running, effect: Cell, target: u32, size:
     ensures { (result ≡ with_counts (g.handlers + 1) g.stack g) × Turns (add_handler effect target size) g live.old result live.new }
 {
     let at = stack_at(g);
-    blocks::raise(live, at + 2, at, g.stack);
+    blocks::copy_within(live, at + 2, at, g.stack);
     cells::put(live, at, effect);
-    cells::put(
-        live,
-        at + 1,
-        Cell {
-            tag: 67,
-            number: target,
-            payload: size as u64,
-        },
-    );
+    cells::put(live, at + 1, Cell::new(Tag::Handler, target, size as u64));
     with_counts(g, g.handlers + 1, g.stack)
 }
 
@@ -185,7 +176,7 @@ pub fn clear_handlers(live: &mut [u8], g: Running) -> Running
     if g.handlers == 0 {
         return g;
     }
-    blocks::lower(live, g.base + 6 + g.locals, stack_at(g), g.stack);
+    blocks::copy_within(live, g.base + 6 + g.locals, stack_at(g), g.stack);
     with_counts(g, 0, g.stack)
 }
 
@@ -195,7 +186,7 @@ pub fn kept(x: &[u8], base: usize) -> Running
     ensures { (result ≡ kept_in (cells x.now) base) × (result.place < 4294967296) }
 {
     let g = open(x, base);
-    if cells::tag(x, base) == 64 {
+    if cells::tag(x, base) == Tag::FrameLucia as u32 {
         return g;
     }
     with_counts(g, g.handlers, 0)

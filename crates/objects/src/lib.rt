@@ -7,7 +7,7 @@ ghost use Rattle.machine.specs.Values.{cell};
 ghost use Rattle.machine.specs.Machine.{Object, closure, here, object_at};
 ghost use Rattle.moves.specs.Objects.{made, Stored};
 
-use cells::Cell;
+use cells::{Cell, Tag};
 
 // A new object at `at`, the end of the store: its first cell, and n cells of the live stack as they are. A list, a closure, or a continuation: a capture is this block copy.
 pub fn new_object(
@@ -39,15 +39,7 @@ pub fn new_closure(store: &mut [u8], at: usize, code: u32, n: usize)
     requires { at < room store.old }
     ensures { Writes store.old (set (cells store.old) at (cell 128 code n)) store.new }
 {
-    cells::put(
-        store,
-        at,
-        Cell {
-            tag: 128,
-            number: code,
-            payload: n as u64,
-        },
-    );
+    cells::put(store, at, Cell::new(Tag::ObjectClosure, code, n as u64));
 }
 
 // An upvalue of the closure at a handle.

@@ -1,5 +1,5 @@
 -- What an operator leaves: its operands are gone, and what it gives is pushed, or its error thrown.
-use Rattle.std.specs.Prelude.{◌≡◌, List, ℕ, drop, Result}
+use Rattle.std.specs.Prelude.{◌≡◌, List, ℕ, drop, Result, Ok}
 use Rattle.machine.specs.Values as v
 use Rattle.machine.specs.Values.{Program}
 use Rattle.machine.specs.Machine.{M}
@@ -12,4 +12,4 @@ use Rattle.plan.specs.declared.Error.{Error}
 use Rattle.cells.specs.declared.Cell.{Cell}
 
 pub record Operates (P : Program) (g : registers.Running) (n : ℕ) (c : Result Cell Error) (r : Next) (old new : List ℕ) : Type 0 where
-  pub does : (op x : ℕ) (y : v.Computed) → c ≡ computed_of y → DoesWhere (λ (m : M) (f : Running). opcode_action P m f op x ≡ takes (computed f (drop n f.stack) y)) P op x g r old new
+  pub does : (op x : ℕ) (y : v.Computed) → c ≡ computed_of y → DoesWhere (λ (m : M) (f : Running). opcode_action P m f op x ≡ takes (computed f (drop n f.stack) y)) P op x g (Ok r) old new

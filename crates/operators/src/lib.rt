@@ -9,14 +9,40 @@ ghost use Rattle.moves.specs.Runs.{end_of};
 ghost use Rattle.scan.specs.Tables.{program_of};
 ghost use Rattle.plan.specs.Plans.{error_of, computed_of};
 ghost use Rattle.plan.specs.Inside.{Does};
+ghost use Rattle.operators.specs.Numbers.{unary_number, binary_number};
 ghost use Rattle.operators.specs.Operated.{Operates};
 
-use cells::Cell;
+use cells::{Cell, Tag};
 use moves::Running;
 use plan::{Error, ErrorKind, Next};
 use refusals::Refusal;
+use values::Metamethod;
+
+// 17 and 18, on one value.
+#[derive(Clone, Copy)]
+pub enum UnaryOperator {
+    Neg = 17,
+    Not = 18,
+}
+
+// 19 to 29, on two values.
+#[derive(Clone, Copy)]
+pub enum BinaryOperator {
+    Add = 19,
+    Sub = 20,
+    Mul = 21,
+    Div = 22,
+    Rem = 23,
+    Eq = 24,
+    Ne = 25,
+    Gt = 26,
+    Ge = 27,
+    Lt = 28,
+    Le = 29,
+}
 
 // A metamethod that two values do not have, by its name's number.
+#[tactic(auto, unfolding(memory::specs::Layout::error_shown, plan::specs::Kinds::kind_of))]
 fn meta_bin_operator(name: u32, first: u32, second: u32) -> Error
     ensures { result ≡ error_of (meta_bin_operator name first second) }
 {
@@ -25,60 +51,57 @@ fn meta_bin_operator(name: u32, first: u32, second: u32) -> Error
         value: Cell {
             tag: name,
             number: 0,
-            payload: first as u64,
+            payload: u64::from(first),
         },
         second,
     }
 }
 
 // A quotient or a remainder; a zero divisor is an error.
+#[tactic(auto, unfolding(memory::specs::Layout::error_shown, plan::specs::Kinds::kind_of, plan::specs::Plans::computed_of, machine::specs::Values::divides))]
 fn divided(d: Option<u64>) -> Result<Cell, Error>
     ensures { result ≡ computed_of (divides d) }
 {
-    match d {
-        Some(n) => Ok(values::int_of(n)),
-        None => Err(Error {
-            kind: ErrorKind::ZeroDivisor,
-            value: Cell {
-                tag: 0,
-                number: 0,
-                payload: 0,
-            },
-            second: 0,
-        }),
-    }
+    d.map(values::int_of).ok_or(Error {
+        kind: ErrorKind::ZeroDivisor,
+        value: Cell::NULL,
+        second: 0,
+    })
 }
 
 // `Neg` takes an Int, `Not` a Bool.
-fn unary_of(op: u16, v: Cell) -> Result<Cell, Error>
-    ensures { result ≡ computed_of (unary op v) }
-{
-    if op == 17 {
-        if v.tag == 2 {
-            return Ok(values::int_of(ints::neg(v.payload)));
-        }
-        return Err(values::meta_un_operator(6, values::type_of(v)));
-    }
-    if v.tag == 1 {
-        return Ok(values::bool_of(v.number == 0));
-    }
-    Err(values::un_operator(op, 0, values::type_of(v)))
-}
-
-// Arithmetic and order of two Ints.
-fn of_ints(op: u16, a: u64, b: u64) -> Result<Cell, Error>
-    ensures { result ≡ computed_of (of_ints op a b) }
+#[tactic(auto, unfolding(plan::specs::Plans::computed_of, machine::specs::Values::unary))]
+fn unary_of(op: UnaryOperator, v: Cell) -> Result<Cell, Error>
+    ensures { result ≡ computed_of (unary (unary_number op) v) }
 {
     match op {
-        19 => Ok(values::int_of(ints::add(a, b))),
-        20 => Ok(values::int_of(ints::sub(a, b))),
-        21 => Ok(values::int_of(ints::mul(a, b))),
-        22 => divided(ints::div(a, b)),
-        23 => divided(ints::rem(a, b)),
-        26 => Ok(values::bool_of(ints::gt(a, b))),
-        27 => Ok(values::bool_of(ints::ge(a, b))),
-        28 => Ok(values::bool_of(ints::lt(a, b))),
-        _ => Ok(values::bool_of(ints::le(a, b))),
+        UnaryOperator::Neg if v.is(Tag::Int) => Ok(values::int_of(ints::neg(v.payload))),
+        UnaryOperator::Neg => Err(values::meta_un_operator(
+            Metamethod::Neg as u32,
+            values::type_of(v),
+        )),
+        UnaryOperator::Not if v.is(Tag::Bool) => Ok(values::bool_of(v.number == 0)),
+        UnaryOperator::Not => Err(values::un_operator(op as u16, 0, values::type_of(v))),
+    }
+}
+
+// Arithmetic and order of two Ints; `Eq` and `Ne` never get here.
+#[tactic(auto, unfolding(plan::specs::Plans::computed_of, machine::specs::Values::of_ints))]
+fn of_ints(op: BinaryOperator, a: u64, b: u64) -> Result<Cell, Error>
+    ensures { result ≡ computed_of (of_ints (binary_number op) a b) }
+{
+    match op {
+        BinaryOperator::Add => Ok(values::int_of(ints::add(a, b))),
+        BinaryOperator::Sub => Ok(values::int_of(ints::sub(a, b))),
+        BinaryOperator::Mul => Ok(values::int_of(ints::mul(a, b))),
+        BinaryOperator::Div => divided(ints::div(a, b)),
+        BinaryOperator::Rem => divided(ints::rem(a, b)),
+        BinaryOperator::Gt => Ok(values::bool_of(ints::gt(a, b))),
+        BinaryOperator::Ge => Ok(values::bool_of(ints::ge(a, b))),
+        BinaryOperator::Lt => Ok(values::bool_of(ints::lt(a, b))),
+        BinaryOperator::Le | BinaryOperator::Eq | BinaryOperator::Ne => Ok(values::bool_of(ints::le(
+            a, b,
+        ))),
     }
 }
 
@@ -95,51 +118,52 @@ fn same_text(program: &lookups::Program, a: Cell, b: Cell) -> bool
 }
 
 // Null, Bool, Int and Effect by value, Str by bytes; any other pair is unequal.
+#[tactic(auto, unfolding(machine::specs::Values::equal, image::specs::Records::both, cells::specs::Tags::tag_of))]
 fn equal(program: &lookups::Program, a: Cell, b: Cell) -> bool
     ensures { result ≡ equal (program_of program.now) a b }
 {
-    if values::type_of(a) == 8 {
-        if values::type_of(b) != 8 {
-            return false;
-        }
-        return effects::equal_effects(program, a, b);
+    if values::is_effect(a) {
+        return values::is_effect(b) && effects::equal_effects(program, a, b);
     }
     if a.tag != b.tag {
         return false;
     }
-    let tag = a.tag;
-    match tag {
-        0 => true,
-        1 => a.number == b.number,
-        2 => a.payload == b.payload,
-        4 => same_text(program, a, b),
-        20 => a.number == b.number,
+    match Tag::try_from(a.tag) {
+        Ok(Tag::Null) => true,
+        Ok(Tag::Bool | Tag::Message) => a.number == b.number,
+        Ok(Tag::Int) => a.payload == b.payload,
+        Ok(Tag::Str) => same_text(program, a, b),
         _ => false,
     }
 }
 
-// All but `Eq` and `Ne` take two Ints. `Add` is opcode 19 and name 7 of the metamethods, and so on.
-fn on_ints(op: u16, a: Cell, b: Cell) -> Result<Cell, Error>
-    requires { (12 ≤ op) × (op ≡ 24 → ⊥) × (op ≡ 25 → ⊥) }
-    ensures { (P : Program) → result ≡ computed_of (binary P op a b) }
+// All but `Eq` and `Ne` take two Ints. The names of the metamethods follow the opcodes.
+#[tactic(auto, unfolding(plan::specs::Plans::computed_of, machine::specs::Values::binary, image::specs::Records::both))]
+fn on_ints(op: BinaryOperator, a: Cell, b: Cell) -> Result<Cell, Error>
+    requires { (binary_number op ≡ 24 → ⊥) × (binary_number op ≡ 25 → ⊥) }
+    ensures { (P : Program) → result ≡ computed_of (binary P (binary_number op) a b) }
 {
-    if a.tag == 2 && b.tag == 2 {
+    if a.is(Tag::Int) && b.is(Tag::Int) {
         return of_ints(op, a.payload, b.payload);
     }
-    Err(meta_bin_operator(op as u32 - 12, values::type_of(a), values::type_of(b)))
+    let name = op as u32 - BinaryOperator::Add as u32 + Metamethod::Add as u32;
+    Err(meta_bin_operator(name, values::type_of(a), values::type_of(b)))
 }
 
-fn binary_of(program: &lookups::Program, op: u16, a: Cell, b: Cell) -> Result<Cell, Error>
-    requires { 12 ≤ op }
-    ensures { result ≡ computed_of (binary (program_of program.now) op a b) }
+#[tactic(auto, unfolding(plan::specs::Plans::computed_of, machine::specs::Values::binary))]
+fn binary_of(
+    program: &lookups::Program,
+    op: BinaryOperator,
+    a: Cell,
+    b: Cell,
+) -> Result<Cell, Error>
+    ensures { result ≡ computed_of (binary (program_of program.now) (binary_number op) a b) }
 {
-    if op == 24 {
-        return Ok(values::bool_of(equal(program, a, b)));
+    match op {
+        BinaryOperator::Eq => Ok(values::bool_of(equal(program, a, b))),
+        BinaryOperator::Ne => Ok(values::bool_of(!equal(program, a, b))),
+        _ => on_ints(op, a, b),
     }
-    if op == 25 {
-        return Ok(values::bool_of(!equal(program, a, b)));
-    }
-    on_ints(op, a, b)
 }
 
 // What an operator gives takes the place of its n operands, or its error is thrown.
@@ -155,52 +179,45 @@ fn computed(live: &mut [u8], g: Running, n: usize, c: Result<Cell, Error>) -> Ne
 }
 
 // 17 `Neg`, 18 `Not`.
-pub fn unary(live: &mut [u8], g: Running, op: u16, x: u32) -> Next
-    requires { (end_of g ≤ room live.old) × (17 ≤ op) × (op ≤ 18) }
-    ensures { (P : Program) → Does P op x g result live.old live.new }
+pub fn unary(live: &mut [u8], g: Running, op: UnaryOperator, x: u32) -> Result<Next, Refusal>
+    requires { end_of g ≤ room live.old }
+    ensures { (P : Program) → Does P (unary_number op) x g result live.old live.new }
 {
     if g.stack == 0 {
-        return Next::Stops(Refusal::FewValues);
+        return Err(Refusal::FewValues);
     }
     let v = moves::top(live, g, 0);
-    computed(live, g, 1, unary_of(op, v))
+    Ok(computed(live, g, 1, unary_of(op, v)))
 }
 
 // 19 `Add` to 29 `Le`: the first operand lies under the second.
-pub fn binary(program: &lookups::Program, live: &mut [u8], g: Running, op: u16, x: u32) -> Next
-    requires { (end_of g ≤ room live.old) × (19 ≤ op) × (op ≤ 29) }
-    ensures { Does (program_of program.now) op x g result live.old live.new }
+pub fn binary(
+    program: &lookups::Program,
+    live: &mut [u8],
+    g: Running,
+    op: BinaryOperator,
+    x: u32,
+) -> Result<Next, Refusal>
+    requires { end_of g ≤ room live.old }
+    ensures { Does (program_of program.now) (binary_number op) x g result live.old live.new }
 {
     if g.stack < 2 {
-        return Next::Stops(Refusal::FewValues);
+        return Err(Refusal::FewValues);
     }
     let b = moves::top(live, g, 0);
     let a = moves::top(live, g, 1);
-    computed(live, g, 2, binary_of(program, op, a, b))
-}
-
-// The same of those that take two Ints, which need nothing of the image.
-pub fn arithmetic(live: &mut [u8], g: Running, op: u16, x: u32) -> Next
-    requires { (end_of g ≤ room live.old) × (19 ≤ op) × (op ≤ 29) × (op ≡ 24 → ⊥) × (op ≡ 25 → ⊥) }
-    ensures { (P : Program) → Does P op x g result live.old live.new }
-{
-    if g.stack < 2 {
-        return Next::Stops(Refusal::FewValues);
-    }
-    let b = moves::top(live, g, 0);
-    let a = moves::top(live, g, 1);
-    computed(live, g, 2, on_ints(op, a, b))
+    Ok(computed(live, g, 2, binary_of(program, op, a, b)))
 }
 
 // 30 `TypeCheck`.
-pub fn type_check(live: &mut [u8], g: Running, x: u32) -> Next
+pub fn type_check(live: &mut [u8], g: Running, x: u32) -> Result<Next, Refusal>
     requires { end_of g ≤ room live.old }
     ensures { (P : Program) → Does P 30 x g result live.old live.new }
 {
     if g.stack == 0 {
-        return Next::Stops(Refusal::FewValues);
+        return Err(Refusal::FewValues);
     }
     let v = moves::top(live, g, 0);
     let same = values::type_of(v) == x;
-    computed(live, g, 1, Ok(values::bool_of(same)))
+    Ok(computed(live, g, 1, Ok(values::bool_of(same))))
 }

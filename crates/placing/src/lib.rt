@@ -10,7 +10,7 @@ ghost use Rattle.moves.specs.Frames.{kept_in, Lands, Gets, new_written, Starts};
 ghost use Rattle.moves.specs.Objects.{last_of, Kept, Resumed};
 ghost use Rattle.moves.specs.Starts.{Starting};
 
-use cells::Cell;
+use cells::{Cell, Tag};
 use moves::Running;
 
 // A value goes on the stack of a frame, and its head is written: where the frame ends then.
@@ -58,25 +58,8 @@ pub fn new_frame(
         },
     );
     cells::put(live, at + 1, subject);
-    cells::put(
-        live,
-        at + 2,
-        Cell {
-            tag: 68,
-            number: 0,
-            payload: n as u64,
-        },
-    );
-    blocks::fill(
-        live,
-        at + 3,
-        3 + k,
-        Cell {
-            tag: 0,
-            number: 0,
-            payload: 0,
-        },
-    );
+    cells::put(live, at + 2, Cell::new(Tag::Place, 0, n as u64));
+    blocks::fill(live, at + 3, 3 + k, Cell::NULL);
 }
 
 // Where the last of so many frames from `from` on begins.
@@ -110,10 +93,7 @@ pub fn put_back(
         live,
         Running {
             base: at + (last - from),
-            locals: g.locals,
-            handlers: g.handlers,
-            stack: g.stack,
-            place: g.place,
+            ..g
         },
         v,
     )

@@ -1,17 +1,21 @@
 -- Room of an opcode that stays in its frame: judged by where the frame would end.
-use Rattle.std.specs.Prelude.{◌≡◌, refl, List, [], ◌∷◌, ℕ, suc, ◌+◌, ◌<◌, ◌≤◌, length}
+use Rattle.std.specs.Prelude.{◌≡◌, refl, List, [], ◌∷◌, ℕ, ◌+◌, ◌<◌, ◌≤◌, length, get_or, drop, Err}
 use Rattle.std.proofs.Common.{◌∙◌, arith, le-ltb, lt-ltb}
 use Rattle.std.proofs.Math.Path.{ap}
+use Rattle.cells.specs.Cells.{null}
 use Rattle.cells.specs.declared.Cell.{Cell}
 use Rattle.machine.specs.Values.{Program}
-use Rattle.machine.specs.Machine.{Handler, Frame, lucia, Result, M, with_frames, frame_cost, frames_cost, result_cost, used, effects, handlers_of}
-use Rattle.machine.specs.Opcodes.{Running, Action, goes, jumps, doing, Taken, takes}
+use Rattle.machine.specs.Machine.{Handler, Frame, lucia, Result, M, with_frames, frame_cost, frames_cost, result_cost, used, handlers_of}
+use Rattle.machine.specs.Opcodes.{Running, Action, goes, jumps, doing, Taken, takes, refuses, with_top, opcode_action}
 use Rattle.machine.specs.Calls.{Sizes, handlers_left, top_handlers, does, stops, judge, outcome}
 use Rattle.machine.specs.StepLaws.{Fits}
+use Rattle.machine.proofs.Refusals.{effects_length}
 use Rattle.memory.proofs.Lists.{length_flat}
 use Rattle.moves.specs.Runs.{Runs, end_of, top_length}
 use Rattle.moves.specs.declared.Running as registers
-use Rattle.plan.specs.Inside.{Inside, left}
+use Rattle.plan.specs.Inside.{Inside, left, Does}
+use Rattle.plan.proofs.RestLaws.{same_refl}
+use Rattle.refusals.specs.declared.Refusal.TheVariants.{FewValues}
 
 -- ---- `judge`, by what there is room for
 pub judge_does : (z : Sizes) (d : Action) (m : M) → handlers_left d ≤ 16 → Fits z m → judge z d m ≡ does d m
@@ -32,11 +36,6 @@ judge_store z d m h f l s =
     rw (le-ltb 16 (handlers_left d) h, le-ltb 256 (length m.frames) f, le-ltb z.live (frames_cost m.frames + result_cost m.result) l, lt-ltb z.store (used m.store) s) refl
 
 -- ---- A frame in registers
-length_effects : (hs : List Handler) → length (effects hs) ≡ length hs
-unfolding effects
-length_effects [] = refl
-length_effects (h ∷ hs) = ap suc (length_effects hs)
-
 pub runs_cost : {h p : ℕ} {l st : List Cell} {hs : List Handler} (below : List Frame) {g : registers.Running} {L : List Cell} → Runs h p l st hs below g L → frames_cost (lucia h p l st hs ∷ below) ≡ end_of g
 unfolding frames_cost frame_cost
 runs_cost below o = omega (arith, o.base, length_flat below, o.counts.locals, o.counts.handlers, o.counts.stack)
@@ -61,7 +60,7 @@ module _ {P : Program} {z : Sizes} {m : M} {r : Running} {g : registers.Running}
 
   top_handlers_lem : top_handlers F ≡ length hs
   unfolding top_handlers handlers_of
-  top_handlers_lem = length_effects hs
+  top_handlers_lem = effects_length hs
 
   -- there is room: the frame goes on, or jumps
   pub goes_fits : {t : Taken} → t ≡ takes (goes F) → length hs ≤ 16 → frames_cost F ≤ z.live → outcome P z t m ≡ does (goes F) (with_frames F m)
@@ -85,4 +84,20 @@ module _ {P : Program} {z : Sizes} {m : M} {r : Running} {g : registers.Running}
 -- the running frame has at most 16 handlers
 pub handlers_few : {P : Program} {z : Sizes} {m : M} {r : Running} {g : registers.Running} {L S : List Cell} → Inside P z m r g L S → length r.handlers ≤ 16
 unfolding handlers_of
-handlers_few {r = r} i = let f = rw i.frames at i.fits.frames in omega (arith, f.0.formed.handlers, length_effects r.handlers)
+handlers_few {r = r} i = let f = rw i.frames at i.fits.frames in omega (arith, f.0.formed.handlers, effects_length r.handlers)
+
+-- ---- The top value of a stack, if there is one
+pub top_none : (st : List Cell) (f : Cell → List Cell → Action) → length st ≡ 0 → with_top st f ≡ refuses 12
+unfolding with_top
+top_none [] f e = refl
+top_none (v ∷ st) f e = absurd (omega (arith, e))
+
+pub top_some : (st : List Cell) (f : Cell → List Cell → Action) → (length st ≡ 0 → ⊥) → with_top st f ≡ takes (f (get_or st 0 null) (drop 1 st))
+unfolding with_top
+top_some [] f e = absurd (e refl)
+top_some (v ∷ st) f e = refl
+
+-- an opcode that is refused for what its stack has
+pub refused_does : {P : Program} {op x : ℕ} {g : registers.Running} {live : List ℕ} → ((m : M) (r : Running) → g.stack ≡ length r.stack → opcode_action P m r op x ≡ refuses 12) → Does P op x g (Err FewValues) live live
+unfolding outcome
+refused_does {P} {live = live} h = record { next = λ z m r S q i. (ap (λ (t : Taken). outcome P z t m) (h m r i.runs.counts.stack), refl); same = same_refl live }

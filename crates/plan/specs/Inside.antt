@@ -1,5 +1,5 @@
 -- A Lucia frame that runs, and what an opcode that stays in it does.
-use Rattle.std.specs.Prelude.{◌≡◌, List, ◌∷◌, ℕ, ◌<◌, length}
+use Rattle.std.specs.Prelude.{◌≡◌, List, ◌∷◌, ℕ, ◌<◌, length, Result, Ok, Err}
 use Rattle.cells.specs.Cells.{cells}
 use Rattle.cells.specs.declared.Cell.{Cell}
 use Rattle.machine.specs.Values as v
@@ -13,7 +13,8 @@ use Rattle.moves.specs.Objects.{Stored}
 use Rattle.moves.specs.declared.Running as registers
 use Rattle.plan.specs.declared.Error.{Error}
 use Rattle.plan.specs.declared.Next.{Next}
-use Rattle.plan.specs.declared.Next.TheVariants.{Goes, Jumps, Throws, Stops}
+use Rattle.plan.specs.declared.Next.TheVariants.{Goes, Jumps, Throws}
+use Rattle.refusals.specs.declared.Refusal.{Refusal}
 use Rattle.refusals.specs.Refusals.{number}
 use Rattle.plan.specs.Rest.{Same}
 use Rattle.plan.specs.Plans.{error_of}
@@ -59,16 +60,16 @@ pub record Threw (t : v.Error → List Frame → Type 0) (r : Running) (x : Erro
   pub runs : Runs r.handle place locals stack handlers r.below g L
 
 -- what an opcode does that changes nothing but its frame: `live` before, `live'` after
-abbrev pub Nexts : Program → Sizes → ℕ → ℕ → M → Running → Next → List ℕ → List ℕ → Type 0
-Nexts P z op x m r (Goes g) live live' = Went (outcome P z (opcode_action P m r op x) m) counted m r g (cells live')
-Nexts P z op x m r (Jumps g) live live' = Went (outcome P z (opcode_action P m r op x) m) free m r g (cells live')
-Nexts P z op x m r (Throws g e) live live' = Threw (λ (y : v.Error) (F : List Frame). opcode_action P m r op x ≡ takes (throws y F)) r e g (cells live) × (live' ≡ live)
-Nexts P z op x m r (Stops n) live live' = (outcome P z (opcode_action P m r op x) m ≡ stops (number n)) × (live' ≡ live)
+abbrev pub Nexts : Program → Sizes → ℕ → ℕ → M → Running → Result Next Refusal → List ℕ → List ℕ → Type 0
+Nexts P z op x m r (Ok (Goes g)) live live' = Went (outcome P z (opcode_action P m r op x) m) counted m r g (cells live')
+Nexts P z op x m r (Ok (Jumps g)) live live' = Went (outcome P z (opcode_action P m r op x) m) free m r g (cells live')
+Nexts P z op x m r (Ok (Throws g e)) live live' = Threw (λ (y : v.Error) (F : List Frame). opcode_action P m r op x ≡ takes (throws y F)) r e g (cells live) × (live' ≡ live)
+Nexts P z op x m r (Err n) live live' = (outcome P z (opcode_action P m r op x) m ≡ stops (number n)) × (live' ≡ live)
 
 -- an opcode op with operand x, whose frame is in g and `old`, does so where Q holds, and leaves the bytes behind the cells
-pub record DoesWhere (Q : M → Running → Type 0) (P : Program) (op x : ℕ) (g : registers.Running) (n : Next) (old new : List ℕ) : Type 0 where
+pub record DoesWhere (Q : M → Running → Type 0) (P : Program) (op x : ℕ) (g : registers.Running) (n : Result Next Refusal) (old new : List ℕ) : Type 0 where
   pub next : (z : Sizes) (m : M) (r : Running) (S : List Cell) → Q m r → Inside P z m r g (cells old) S → Nexts P z op x m r n old new
   pub same : Same old new
 
-abbrev pub Does : Program → ℕ → ℕ → registers.Running → Next → List ℕ → List ℕ → Type 0
+abbrev pub Does : Program → ℕ → ℕ → registers.Running → Result Next Refusal → List ℕ → List ℕ → Type 0
 Does P op x g n old new = DoesWhere (λ (m : M) (r : Running). Unit {0}) P op x g n old new

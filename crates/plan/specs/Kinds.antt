@@ -1,8 +1,8 @@
 -- The kinds of errors and frames, and the numbers that memory has for them.
 use Rattle.std.specs.Prelude.{ℕ}
 use Rattle.machine.specs.Values.{Error, call_arguments, un_operator, bin_operator, meta_un_operator, meta_bin_operator, zero_divisor, lucia_error, lucia_panic}
-use Rattle.plan.specs.declared.ErrorKind.{ErrorKind}
-use Rattle.plan.specs.declared.ErrorKind.TheVariants as kinds
+use Rattle.results.specs.declared.ErrorKind.{ErrorKind}
+use Rattle.results.specs.declared.ErrorKind.TheVariants as kinds
 use Rattle.plan.specs.declared.FrameKind.{FrameKind}
 use Rattle.plan.specs.declared.FrameKind.TheVariants as frames
 
@@ -15,16 +15,6 @@ kind_of (meta_bin_operator n t u) = kinds.MetaBinOperator
 kind_of zero_divisor = kinds.ZeroDivisor
 kind_of (lucia_error c) = kinds.Error
 kind_of (lucia_panic c) = kinds.Panic
-
-abbrev pub kind_number : ErrorKind → ℕ
-kind_number kinds.CallArguments = 3
-kind_number kinds.UnOperator = 4
-kind_number kinds.BinOperator = 5
-kind_number kinds.MetaUnOperator = 6
-kind_number kinds.MetaBinOperator = 7
-kind_number kinds.ZeroDivisor = 8
-kind_number kinds.Error = 9
-kind_number kinds.Panic = 10
 
 abbrev pub frame_number : FrameKind → ℕ
 frame_number frames.Lucia = 64

@@ -2,11 +2,11 @@
 #![tactic(auto)]
 
 ghost use Rattle.std.specs.Prelude.{◌≡◌};
-ghost use Rattle.plan.specs.Kinds.{kind_number, frame_number};
+ghost use Rattle.plan.specs.Kinds.{frame_number};
 
-use cells::Cell;
+use cells::{Cell, Tag};
 use moves::Running;
-use refusals::Refusal;
+pub use results::ErrorKind;
 
 // The parameters of a code or an effect: their count, and whether more arguments go into a list.
 #[derive(Clone, Copy)]
@@ -15,25 +15,12 @@ pub struct Params {
     pub variadic: bool,
 }
 
-// The kinds of errors, by the numbers that a result in memory has for them.
-#[derive(Clone, Copy)]
-pub enum ErrorKind {
-    CallArguments = 3,
-    UnOperator = 4,
-    BinOperator = 5,
-    MetaUnOperator = 6,
-    MetaBinOperator = 7,
-    ZeroDivisor = 8,
-    Error = 9,
-    Panic = 10,
-}
-
-impl ErrorKind {
-    pub fn number(self) -> u32
-        ensures { result ≡ kind_number self }
-    {
-        self as u32
-    }
+impl Params {
+    // One parameter: what a builtin effect and a continuation take.
+    pub const ONE: Params = Params {
+        count: 1,
+        variadic: false,
+    };
 }
 
 // An error as a result shows it: its kind, a cell, a second type.
@@ -44,13 +31,13 @@ pub struct Error {
     pub second: u32,
 }
 
-// How an opcode ends that stays in its frame: it goes on or jumps, with the frame in registers; its own error is thrown; or it is refused.
+// How an opcode ends that stays in its frame and is not refused: it goes on or jumps, with the frame in registers, or its
+// own error is thrown.
 #[derive(Clone, Copy)]
 pub enum Next {
     Goes(Running),
     Jumps(Running),
     Throws(Running, Error),
-    Stops(Refusal),
 }
 
 // How much a machine has: frames, cells of the live stack, cells of the store.
@@ -75,9 +62,9 @@ impl FrameKind {
         ensures { result ≡ frame_number self }
     {
         match self {
-            FrameKind::Lucia => 64,
-            FrameKind::Host => 65,
-            FrameKind::Effect => 66,
+            FrameKind::Lucia => Tag::FrameLucia as u32,
+            FrameKind::Host => Tag::FrameCallback as u32,
+            FrameKind::Effect => Tag::FrameEffect as u32,
         }
     }
 }

@@ -6,7 +6,6 @@ use Rattle.std.proofs.Math.Seq.{take-nil}
 use Rattle.cells.specs.Le.{le_at, le_join, limit}
 use Rattle.image.specs.Program.{tab}
 use Rattle.image.proofs.Parts.{length_tab}
-use Rattle.image.specs.Layout.{field}
 
 -- a number of a table
 pub record Entry (t : List ℕ) (i r : ℕ) : Type 0 where
@@ -16,10 +15,6 @@ pub record Entry (t : List ℕ) (i r : ℕ) : Type 0 where
 -- a list by number has no item past its last
 pub tab_past : {A : Type 0} (n : ℕ) (f : ℕ → A) (i : ℕ) (d : A) → n ≤ i → get_or (tab n f) i d ≡ d
 tab_past n f i d h = get_or-eq_default (tab n f) d (omega (arith, length_tab n f))
-
--- the first column of a row holds the code's place
-pub place_is : (rows : List ℕ) (k : ℕ) {at : ℕ} → Entry rows (10 * k) at → at ≡ field rows k 0
-place_is rows k a = a.is ∙ ap (λ (i : ℕ). get_or rows i 0) (sym (add-zero (10 * k)))
 
 -- a number of k bytes past the end
 pub le_past : (k : ℕ) (s : List ℕ) (at : ℕ) → length s ≤ at → 0 ≡ le_at k s at

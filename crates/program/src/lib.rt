@@ -4,10 +4,11 @@
 ghost use Rattle.std.specs.Prelude.{◌≡◌, ◌<◌, drop, get_or};
 ghost use Rattle.cells.specs.Le.{le_at};
 ghost use Rattle.image.specs.Program.{part};
-ghost use Rattle.image.specs.Layout.{field, opcode_at, capture_at, constant_at};
+ghost use Rattle.image.specs.Layout.{flat, opcode_at, capture_at, constant_at};
 ghost use Rattle.program.specs.Parts.{Entry};
+ghost use Rattle.program.specs.Looks.{RowOf};
 
-use image::{Capture, Constant, Op};
+use image::{Capture, Constant, Op, Row};
 
 // The number of two bytes; a byte past the end counts 0.
 #[tactic(auto, using(crate::specs::Parts::le_past, crate::specs::Parts::le_last))]
@@ -124,10 +125,9 @@ pub fn constant_at(image: &[u8], at: usize) -> Constant
     }
 }
 
-// Number i of the row of code k: 1 opcodes, 3 globals, 5 captures, 7 constants, 9 codes are counts.
-pub fn field(rows: &[u32], k: usize, i: usize) -> usize
-    requires { (k < 4294967296) × (i < 10) }
-    ensures { (result ≡ field rows.now k i) × (result < 4294967296) }
+// The row of code k, one of zeros past the end.
+pub fn row(rows: &[Row], k: usize) -> Row
+    ensures { RowOf (flat rows.now) k result }
 {
-    entry(rows, 10 * k + i)
+    rows.get(k).copied().unwrap_or(Row::NONE)
 }

@@ -15,8 +15,8 @@ use mathlib.Core.List.{List}
 use Rattle.std.proofs.Math.Bool.{true}
 use Prim.Native.Nat.{ℕ, zero, suc, ◌+◌}
 use Rattle.image.specs.Records.{both}
-use Rattle.image.proofs.Parts.{both_assoc}
-use Rattle.reader.specs.Every.{every, every_same, both_true, true_both}
+use Rattle.image.proofs.Parts.{both_assoc, both_true}
+use Rattle.reader.specs.Every.{every, every_same, true_both}
 
 every_cons : (n : ℕ) (f : ℕ → Bool) → every (suc n) f ≡ both (f 0) (every n (λ (i : ℕ). f (suc i)))
 unfolding every

@@ -1,8 +1,7 @@
 -- The counts of a code, and the rules that go by counts alone.
-use Rattle.std.specs.Prelude.{◌≡◌, refl, List, false, ℕ, ◌+◌, ◌*◌, ◌<◌, ◌≤◌, leb}
+use Rattle.std.specs.Prelude.{◌≡◌, refl, List, ℕ, ◌+◌, ◌<◌, leb}
 use Rattle.std.proofs.Math.Path.{sym}
-use Rattle.std.proofs.Common.{ap, ◌∙◌}
-use borrow.Author.Tests.{le-leb, lt-leb}
+use Rattle.std.proofs.Common.{◌∙◌}
 use Rattle.cells.specs.Le.{le_at}
 use Rattle.image.specs.Records.{both}
 use Rattle.image.specs.Program.{Code, operand_kind, operand_fine, opcode_fine, capture_fine, counts_fine}
@@ -13,7 +12,6 @@ use Rattle.image.specs.declared.Capture.{Capture}
 use Rattle.image.specs.declared.OperandKind.{OperandKind}
 use Rattle.image.specs.declared.OperandKind.TheVariants.{Unused, Count, ValueType, Local, Global, Upvalue, Const, Target, LeftOut}
 use Rattle.reader.specs.declared.Counts.{Counts}
-use Rattle.program.specs.Parts.{Entry, place_is}
 use Rattle.reader.specs.Rules.{counts_of, counts_at, counted, IsCounts}
 
 -- ---- a rule that goes by counts alone
@@ -51,68 +49,28 @@ module _ (n : Counts) where
   unfolding counts_fine
   counts_are = simp length_tab
 
-  pub counts_params : 32 < n.params → false ≡ counts_fine (counted n)
-  unfolding both
-  counts_params h = sym (counts_are ∙ simp (lt-leb _ _ h))
-
-  module _ (a0 : n.params ≤ 32) where
-    pub counts_variadic : 1 < n.variadic → false ≡ counts_fine (counted n)
-    unfolding both
-    counts_variadic h = sym (counts_are ∙ simp (le-leb _ _ a0, lt-leb _ _ h))
-
-    module _ (a1 : n.variadic ≤ 1) where
-      pub counts_locals : 256 < n.locals → false ≡ counts_fine (counted n)
-      unfolding both
-      counts_locals h = sym (counts_are ∙ simp (le-leb _ _ a0, le-leb _ _ a1, lt-leb _ _ h))
-
-      module _ (a2 : n.locals ≤ 256) where
-        pub counts_none : n.opcodes < 1 → false ≡ counts_fine (counted n)
-        unfolding both
-        counts_none h = sym (counts_are ∙ simp (le-leb _ _ a0, le-leb _ _ a1, le-leb _ _ a2, lt-leb _ _ h))
-
-        module _ (a3 : 1 ≤ n.opcodes) where
-          pub counts_opcodes : 4096 < n.opcodes → false ≡ counts_fine (counted n)
-          unfolding both
-          counts_opcodes h = sym (counts_are ∙ simp (le-leb _ _ a0, le-leb _ _ a1, le-leb _ _ a2, le-leb _ _ a3, lt-leb _ _ h))
-
-          module _ (a4 : n.opcodes ≤ 4096) where
-            pub counts_globals : 256 < n.globals → false ≡ counts_fine (counted n)
-            unfolding both
-            counts_globals h = sym (counts_are ∙ simp (le-leb _ _ a0, le-leb _ _ a1, le-leb _ _ a2, le-leb _ _ a3, le-leb _ _ a4, lt-leb _ _ h))
-
-            module _ (a5 : n.globals ≤ 256) where
-              pub counts_captures : 256 < n.captures → false ≡ counts_fine (counted n)
-              unfolding both
-              counts_captures h = sym (counts_are ∙ simp (le-leb _ _ a0, le-leb _ _ a1, le-leb _ _ a2, le-leb _ _ a3, le-leb _ _ a4, le-leb _ _ a5, lt-leb _ _ h))
-
-              module _ (a6 : n.captures ≤ 256) where
-                pub counts_constants : leb n.constants 1024 ≡ counts_fine (counted n)
-                unfolding both
-                counts_constants = sym (counts_are ∙ simp (le-leb _ _ a0, le-leb _ _ a1, le-leb _ _ a2, le-leb _ _ a3, le-leb _ _ a4, le-leb _ _ a5, le-leb _ _ a6))
-
-pub counts_is : (image rows : List ℕ) (k : ℕ) {at p v l p' v' l' o g u c d : ℕ} → Entry rows (10 * k) at → p ≡ le_at 2 image at → p' ≡ p
-    → v ≡ le_at 2 image (at + 2) → v' ≡ v → l ≡ le_at 2 image (at + 4) → l' ≡ l
-    → Entry rows (10 * k + 1) o → Entry rows (10 * k + 3) g → Entry rows (10 * k + 5) u → Entry rows (10 * k + 7) c → Entry rows (10 * k + 9) d
+pub counts_is : (image rows : List ℕ) (k : ℕ) {p v l p' v' l' o g u c d : ℕ} → p ≡ le_at 2 image (field rows k 0) → p' ≡ p
+    → v ≡ le_at 2 image (field rows k 0 + 2) → v' ≡ v → l ≡ le_at 2 image (field rows k 0 + 4) → l' ≡ l
+    → (o ≡ field rows k 1) × (o < 4294967296) → (g ≡ field rows k 3) × (g < 4294967296) → (u ≡ field rows k 5) × (u < 4294967296) → (c ≡ field rows k 7) × (c < 4294967296)
+    → (d ≡ field rows k 9) × (d < 4294967296)
     → IsCounts image rows k (record { params = p'; variadic = v'; locals = l'; opcodes = o; globals = g; captures = u; constants = c; codes = d })
-counts_is image rows k a p p' v v' l l' o g u c d =
-    let z = place_is rows k a in
-    let x : (i : ℕ) → le_at 2 image (_ + i) ≡ le_at 2 image (field rows k 0 + i) = λ i. ap (λ (y : ℕ). le_at 2 image (y + i)) z in
+counts_is image rows k p p' v v' l l' o g u c d =
     let e : _ ≡ counts_at image rows k =
     λ j. record {
-      params = (p' ∙ p ∙ ap (le_at 2 image) z) j;
-      variadic = (v' ∙ v ∙ x 2) j;
-      locals = (l' ∙ l ∙ x 4) j;
-      opcodes = o.is j;
-      globals = g.is j;
-      captures = u.is j;
-      constants = c.is j;
-      codes = d.is j;
+      params = (p' ∙ p) j;
+      variadic = (v' ∙ v) j;
+      locals = (l' ∙ l) j;
+      opcodes = o.0 j;
+      globals = g.0 j;
+      captures = u.0 j;
+      constants = c.0 j;
+      codes = d.0 j;
     } in
     record {
       is = e;
       of = λ constants inner. e ∙ sym (counts_at_lem image rows constants inner k);
-      opcodes = o.fits;
-      globals = g.fits;
-      constants = c.fits;
-      codes = d.fits;
+      opcodes = o.1;
+      globals = g.1;
+      constants = c.1;
+      codes = d.1;
     }

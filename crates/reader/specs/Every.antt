@@ -1,5 +1,5 @@
 -- A test of every item of a table, by number, and the loop over it.
-use Rattle.std.specs.Prelude.{◌≡◌, Bool, false}
+use Rattle.std.specs.Prelude.{◌≡◌, Bool}
 use Rattle.std.proofs.Math.Path.{refl, sym, ap}
 use Rattle.std.proofs.Common.{◌∙◌}
 use mathlib.Core.List.{List, [], ◌∷◌, ◌++◌}
@@ -8,7 +8,8 @@ use Prim.Native.Nat.{ℕ, zero, suc, ◌<◌}
 use native.Mathlib.Omega.{arith}
 use Rattle.image.specs.Records.{both}
 use Rattle.image.specs.Program.{all, tab}
-use Rattle.image.proofs.Parts.{both_assoc}
+use Rattle.std.proofs.Math.ListN.{get_or}
+use Rattle.image.proofs.Parts.{both_assoc, both_true, tab_at}
 
 -- f holds of each number below n
 unfoldable pub every : ℕ → (ℕ → Bool) → Bool
@@ -20,16 +21,6 @@ lower zero zero h k = absurd (k refl)
 lower zero (suc n) h k = omega arith
 lower (suc i) zero h k = absurd (omega arith)
 lower (suc i) (suc n) h k = let r = lower i n (omega arith) (λ e. k (ap suc e)) in omega arith
-
-pub both_true : (a : Bool) → both a true ≡ a
-unfolding both
-both_true true = refl
-both_true false = refl
-
-both_false : (a : Bool) → both a false ≡ false
-unfolding both
-both_false true = refl
-both_false false = refl
 
 pub true_both : (b : Bool) → both true b ≡ b
 unfolding both
@@ -55,3 +46,15 @@ every_same (suc n) f g e =
     let l : every n f ≡ every n g = every_same n f g (λ i h. e i (omega arith)) in
     let r : f n ≡ g n = e n (omega arith) in
     rw (l, r)
+
+-- a table whose items are looked up by number
+pub all_by_number : {A : Type 0} (f h : A → Bool) (m : ℕ) (g : ℕ → A) (d : A) {n : ℕ} {t : Bool} → n ≡ m → ((x : A) → h x ≡ f x) → t ≡ every n (λ (i : ℕ). h (get_or (tab m g) i d)) → t ≡ all f (tab m g)
+all_by_number f h m g d e same r =
+    r ∙ ap (λ (n : ℕ). every n (λ (i : ℕ). h (get_or (tab m g) i d))) e
+    ∙ every_same m _ _ (λ i l. ap h (tab_at m g i d l) ∙ same (g i)) ∙ sym (all_tab f m g)
+
+-- the same test of each item
+pub all_same : {A : Type 0} (f g : A → Bool) (l : List A) → ((x : A) → f x ≡ g x) → all f l ≡ all g l
+unfolding all
+all_same f g [] e = refl
+all_same f g (x ∷ l) e = let a : f x ≡ g x = e x in let b : all f l ≡ all g l = all_same f g l e in rw (a, b)

@@ -75,6 +75,10 @@ module _ {image : List ℕ} {r : Result Sizes Refusal} {rows constants inner : L
     pub reads_not : t ≡ false → Reads image (Err ImageNumber) rows constants inner
     reads_not y = reads image (sym (rw y at tested_to)) (omega arith)
 
+-- what is tested of a program with these parts
+pub fine_of : {i image : List ℕ} {p codes : List Code} → i ≡ image → p ≡ codes → {t : Bool} → t ≡ program_fine i p → t ≡ program_fine image codes
+fine_of e f h = rw (e, f) at h
+
 -- the answer's number
 pub reads_number : {image : List ℕ} (r : Result Sizes Refusal) {rows constants inner : List ℕ} → Reads image r rows constants inner
     → (o : Result (Unit {0}) Refusal) (P : Sizes → Unit {0} → Type 0) → MatchResult r (λ h. IsOkAnd o (P h)) (λ x. o ≡ Err x) → number_of o ≡ refusal_of (parse image)

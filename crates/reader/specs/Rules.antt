@@ -1,11 +1,11 @@
--- The rules of crate `image` by number, as the code tests them: a code by its counts, and every item of a part by its number in it.
-use Rattle.std.specs.Prelude.{◌≡◌, Bool, true, List, ℕ, ◌+◌, ◌-◌, ◌*◌, ◌<◌, length, get_or, ltb, leb}
+-- The rules of crate `image` as the code tests them: a code by its counts, and the codes of the program that is lent.
+use Rattle.std.specs.Prelude.{◌≡◌, Bool, List, ℕ, ◌+◌, ◌-◌, ◌<◌, length, get_or, leb}
 use Rattle.cells.specs.Le.{le_at}
-use Rattle.image.specs.Records.{if?, both}
-use Rattle.image.specs.Program.{Code, tab, no_op, opcode_fine, constant_fine, capture_fine, counts_fine, last_fine}
-use Rattle.image.specs.Layout.{field, opcode_at, capture_at, constant_at, code_at}
+use Rattle.image.specs.Records.{both}
+use Rattle.image.specs.Program.{Code, all, tab, no_op, no_code, opcode_fine, last_fine, capture_fine, counts_fine}
+use Rattle.image.specs.Layout.{flat, field, code_at}
+use Rattle.lookups.specs.declared.Program.{Program}
 use Rattle.reader.specs.declared.Counts.{Counts}
-use Rattle.reader.specs.Every.{every}
 
 -- the counts of a code, and of code k in the tables
 abbrev pub counts_of : Code → Counts
@@ -55,30 +55,28 @@ pub record IsCounts (image rows : List ℕ) (k : ℕ) (n : Counts) : Type 0 wher
   pub constants : n.constants < 4294967296
   pub codes : n.codes < 4294967296
 
--- ---- every item
-abbrev pub opcodes_fine : List ℕ → ℕ → Counts → Bool
-opcodes_fine s at n = every n.opcodes (λ (i : ℕ). opcode_fine (counted n) (opcode_at s at i))
+-- ---- the program that is lent: code k, and all codes
+abbrev pub code_in : Program → ℕ → Code
+code_in p = code_at p.image.now (flat p.rows.now) p.constants.now p.inner.now
 
-abbrev pub globals_fine : List ℕ → ℕ → ℕ → Bool
-globals_fine s at count = every count (λ (i : ℕ). leb (le_at 2 s (at + 2 * i)) 255)
+abbrev pub codes_of : Program → List Code
+codes_of p = tab p.codes (code_in p)
 
-abbrev pub captures_fine : List ℕ → ℕ → ℕ → Counts → Bool
-captures_fine s at count outer = every count (λ (i : ℕ). capture_fine (counted outer) (capture_at s at i))
+-- ---- rules of `code_fine`, by themselves
+abbrev pub globals_fine : List ℕ → Bool
+globals_fine = all (λ (n : ℕ). leb n 255)
 
-abbrev pub constants_fine : List ℕ → List ℕ → ℕ → ℕ → ℕ → Bool
-constants_fine image constants from count codes = every count (λ (j : ℕ). constant_fine image codes (constant_at image (get_or constants (from + j) 0)))
+abbrev pub captures_fine : Code → Code → Bool
+captures_fine outer c = all (capture_fine outer) c.captures
 
--- the captures of code k in a code of these counts; there is none past the last code
-unfoldable pub inner_fine : List ℕ → List ℕ → ℕ → Counts → ℕ → Bool
-inner_fine image rows codes outer k = if? (ltb k codes) (captures_fine image (field rows k 4) (field rows k 5) outer) true
+-- the captures of code k of p
+abbrev pub inner_fine : List Code → Code → ℕ → Bool
+inner_fine p outer k = captures_fine outer (get_or p k no_code)
 
-abbrev pub all_inner_fine : List ℕ → List ℕ → List ℕ → ℕ → ℕ → Counts → Bool
-all_inner_fine image rows inner codes from n = every n.codes (λ (j : ℕ). inner_fine image rows codes n (get_or inner (from + j) 0))
-
--- the counts, opcodes and globals of code k
-abbrev pub own_fine : List ℕ → List ℕ → ℕ → Counts → Bool
-own_fine image rows k n =
-    both (counts_fine (counted n))
-    (both (opcodes_fine image (field rows k 0 + 14) n)
-    (both (last_fine (opcode_at image (field rows k 0 + 14) (n.opcodes - 1)))
-    (globals_fine image (field rows k 2) n.globals)))
+-- the counts, opcodes and globals of a code
+abbrev pub own_fine : Code → Bool
+own_fine c =
+    both (counts_fine c)
+    (both (all (opcode_fine c) c.opcodes)
+    (both (last_fine (get_or c.opcodes (length c.opcodes - 1) no_op))
+    (globals_fine c.globals)))

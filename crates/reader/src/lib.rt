@@ -2,15 +2,20 @@
 #![tactic(auto)]
 
 ghost use Rattle.std.specs.Prelude.{◌≡◌, ◌*◌, ◌≤◌, ◌<◌, length, take};
-ghost use Rattle.image.specs.Program.{opcode_fine, last_fine, effect_fine, constant_fine, capture_fine, counts_fine, code_fine, program_fine, tab};
-ghost use Rattle.image.specs.Layout.{code_at};
-ghost use Rattle.reader.specs.Rules.{counted, IsCounts, opcodes_fine, globals_fine, captures_fine, constants_fine, inner_fine, all_inner_fine, own_fine};
+ghost use Rattle.image.specs.Program.{all, opcode_fine, last_fine, effect_fine, constant_fine, capture_fine, counts_fine, code_fine, program_fine, tab};
+ghost use Rattle.image.specs.Layout.{flat, code_at};
+ghost use Rattle.reader.specs.Rules.{counted, IsCounts, code_in, codes_of, globals_fine, captures_fine, inner_fine, own_fine};
 ghost use Rattle.image.specs.Image.{parse};
 ghost use Rattle.reader.specs.Reads.{Fits, Reads, refusal_of};
 
-use image::{Capture, Constant, Op, OperandKind};
+use image::{
+    Capture, CaptureFrom, Constant, ConstantKind, EffectKind, Op, Opcode, OperandKind, Row,
+};
 use layout::Sizes;
 use refusals::Refusal;
+
+// The highest number of a value's type.
+const LAST_TYPE: usize = 9;
 
 // How many there are of each in a code.
 #[derive(Clone, Copy)]
@@ -33,7 +38,7 @@ fn opcode_fine(n: Counts, o: Op) -> bool
     match image::operand_kind(o.number) {
         OperandKind::Unused => operand == 0,
         OperandKind::Count => true,
-        OperandKind::ValueType => operand <= 9,
+        OperandKind::ValueType => operand <= LAST_TYPE,
         OperandKind::Local => operand < n.locals,
         OperandKind::Global => operand < n.globals,
         OperandKind::Upvalue => operand < n.captures,
@@ -43,117 +48,116 @@ fn opcode_fine(n: Counts, o: Op) -> bool
     }
 }
 
-// Do all opcodes of a part keep their rule in a code of these counts?
-fn opcodes_fine(part: &[u8], n: Counts) -> bool
-    requires { n.opcodes < 4294967296 }
-    ensures { result ≡ opcodes_fine part.now 0 n }
+// Do all opcodes of code k keep their rule in it?
+fn opcodes_fine(program: &lookups::Program, k: usize, n: Counts) -> bool
+    requires { (k < 4294967296) × IsCounts program.now.image.now (flat program.now.rows.now) k n }
+    ensures { result ≡ all (opcode_fine (code_in program.now k)) (code_in program.now k).opcodes }
 {
-    (0..n.opcodes).all(|i| opcode_fine(n, program::opcode_at(part, 0, i)))
+    (0..program.opcode_count(k)).all(|i| opcode_fine(n, program.opcode(k, i)))
 }
 
 // May a code end with this opcode?
+#[tactic(auto, using(crate::specs::RulesLaws::last_unnamed, crate::specs::RulesLaws::last_other, crate::specs::RulesLaws::last_named))]
 fn last_fine(o: Op) -> bool
     ensures { result ≡ last_fine o }
 {
-    let number = o.number;
-    match number {
-        37 | 40..=43 => true,
+    let Ok(opcode) = Opcode::try_from(o.number) else {
+        return false;
+    };
+    match opcode {
+        Opcode::Return | Opcode::Jump | Opcode::JumpBackEdge | Opcode::Break | Opcode::Continue =>
+            true,
         _ => false,
     }
 }
 
-// Are all globals of a part below 256?
-fn globals_fine(part: &[u8], count: usize) -> bool
-    requires { count < 4294967296 }
-    ensures { result ≡ globals_fine part.now 0 count }
+// Are all globals of code k below 256?
+fn globals_fine(program: &lookups::Program, k: usize) -> bool
+    requires { k < 4294967296 }
+    ensures { result ≡ globals_fine (code_in program.now k).globals }
 {
-    (0..count).all(|i| program::le16(part, 2 * i) <= 255)
+    (0..program.global_count(k)).all(|i| program.global(k, i) <= 255)
 }
 
 // Does a capture lie in an enclosing code of these counts?
+#[tactic(auto, using(image::proofs::Parts::length_tab), unfolding(image::specs::Kinds::capture_from_of, image::specs::Program::capture_fine, image::specs::Records::both))]
 fn capture_fine(outer: Counts, c: Capture) -> bool
     ensures { result ≡ capture_fine (counted outer) c }
 {
-    let from = c.from;
-    if from == 0 {
-        return usize::from(c.index) < outer.locals;
+    match CaptureFrom::try_from(c.from) {
+        Ok(CaptureFrom::Local) => usize::from(c.index) < outer.locals,
+        Ok(CaptureFrom::Upvalue) => usize::from(c.index) < outer.captures,
+        Err(_) => false,
     }
-    if from != 1 {
-        return false;
-    }
-    usize::from(c.index) < outer.captures
 }
 
-// Do all captures of a part lie in it?
-fn captures_fine(part: &[u8], count: usize, outer: Counts) -> bool
-    requires { count < 4294967296 }
-    ensures { result ≡ captures_fine part.now 0 count outer }
+// Do all captures of code k lie in it?
+fn captures_fine(program: &lookups::Program, outer: Counts, k: usize) -> bool
+    requires { k < 4294967296 }
+    ensures { result ≡ captures_fine (counted outer) (code_in program.now k) }
 {
-    (0..count).all(|i| capture_fine(outer, program::capture_at(part, 0, i)))
+    (0..program.capture_count(k)).all(|i| capture_fine(outer, program.capture(k, i)))
 }
 
 // Are the numbers and the name of an effect's body fine?
+#[tactic(auto, unfolding(image::specs::Kinds::effect_kind_of, image::specs::Program::effect_fine, image::specs::Records::both))]
 fn effect_fine(body: &[u8]) -> bool
     ensures { result ≡ effect_fine body.now }
 {
-    let number = program::le16(body, 0);
-    if number <= 2 {
-        return true;
+    match EffectKind::try_from(program::le16(body, 0)) {
+        Ok(EffectKind::Yield | EffectKind::Error | EffectKind::Panic) => true,
+        Ok(EffectKind::Declared) => {
+            program::le16(body, 2) <= 32
+                && program::le16(body, 4) <= 1
+                && utf8::is_utf8(program::rest(body, 6))
+        }
+        Err(_) => false,
     }
-    if number != 3 {
-        return false;
-    }
-    if program::le16(body, 2) > 32 {
-        return false;
-    }
-    if program::le16(body, 4) > 1 {
-        return false;
-    }
-    utf8::is_utf8(program::rest(body, 6))
 }
 
 // Does a constant keep its rule in a code that has so many codes in it?
+#[tactic(auto, unfolding(image::specs::Kinds::constant_kind_of, image::specs::Program::constant_fine))]
 fn constant_fine(image: &[u8], codes: usize, c: Constant) -> bool
     ensures { result ≡ constant_fine image.now codes c }
 {
-    let kind = c.kind;
     let body = program::part(image, c.place, c.size);
-    match kind {
-        17 => program::byte(body, 0) <= 1,
-        20 => utf8::is_utf8(body),
-        22 => usize::from(program::le16(body, 0)) < codes,
-        23 => effect_fine(body),
+    match ConstantKind::try_from(c.kind) {
+        Ok(ConstantKind::Bool) => program::byte(body, 0) <= 1,
+        Ok(ConstantKind::Str) => utf8::is_utf8(body),
+        Ok(ConstantKind::Function) => usize::from(program::le16(body, 0)) < codes,
+        Ok(ConstantKind::Effect) => effect_fine(body),
         _ => true,
     }
 }
 
-// Do all constants of a code keep it?
-fn constants_fine(image: &[u8], constants: &[u32], from: usize, count: usize, codes: usize) -> bool
-    requires { (from < 4294967296) × (count < 4294967296) }
-    ensures { result ≡ constants_fine image.now constants.now from count codes }
+// Do all constants of code k keep it?
+fn constants_fine(program: &lookups::Program, k: usize) -> bool
+    requires { k < 4294967296 }
+    ensures { result ≡ all (constant_fine program.now.image.now (length (code_in program.now k).codes)) (code_in program.now k).constants }
 {
-    (0..count).all(|j| {
-        let place = program::entry(constants, from + j);
-        constant_fine(image, codes, program::constant_at(image, place))
-    })
+    let codes = program.code_count(k);
+    (0..program.constant_count(k)).all(|i| constant_fine(
+        program.image,
+        codes,
+        program.constant(k, i),
+    ))
 }
 
 // The counts of code k.
-pub fn counts_at(image: &[u8], rows: &[u32], k: usize) -> Counts
+#[tactic(auto, using(crate::specs::CountsLaws::counts_is))]
+pub fn counts_at(program: &lookups::Program, k: usize) -> Counts
     requires { k < 4294967296 }
-    ensures { IsCounts image.now rows.now k result }
+    ensures { IsCounts program.now.image.now (flat program.now.rows.now) k result }
 {
-    let row = 10 * k;
-    let at = program::entry(rows, row);
     Counts {
-        params: usize::from(program::le16(image, at)),
-        variadic: usize::from(program::le16(image, at + 2)),
-        locals: usize::from(program::le16(image, at + 4)),
-        opcodes: program::entry(rows, row + 1),
-        globals: program::entry(rows, row + 3),
-        captures: program::entry(rows, row + 5),
-        constants: program::entry(rows, row + 7),
-        codes: program::entry(rows, row + 9),
+        params: usize::from(program.params(k)),
+        variadic: usize::from(program.variadic(k)),
+        locals: usize::from(program.locals(k)),
+        opcodes: program.opcode_count(k),
+        globals: program.global_count(k),
+        captures: program.capture_count(k),
+        constants: program.constant_count(k),
+        codes: program.code_count(k),
     }
 }
 
@@ -161,146 +165,97 @@ pub fn counts_at(image: &[u8], rows: &[u32], k: usize) -> Counts
 fn counts_fine(n: Counts) -> bool
     ensures { result ≡ counts_fine (counted n) }
 {
-    if n.params > 32 {
-        return false;
-    }
-    if n.variadic > 1 {
-        return false;
-    }
-    if n.locals > 256 {
-        return false;
-    }
-    if n.opcodes < 1 {
-        return false;
-    }
-    if n.opcodes > 4096 {
-        return false;
-    }
-    if n.globals > 256 {
-        return false;
-    }
-    if n.captures > 256 {
-        return false;
-    }
-    n.constants <= 1024
+    n.params <= 32
+        && n.variadic <= 1
+        && n.locals <= 256
+        && n.opcodes >= 1
+        && n.opcodes <= 4096
+        && n.globals <= 256
+        && n.captures <= 256
+        && n.constants <= 1024
 }
 
-// Do the captures of code k, which is in a code of these counts, lie in it?
-fn inner_fine(image: &[u8], rows: &[u32], codes: usize, outer: Counts, k: usize) -> bool
-    requires { k < 4294967296 }
-    ensures { result ≡ inner_fine image.now rows.now codes outer k }
+// Do the captures of code k, which is in a code of these counts, lie in it? Past the last code there are none.
+#[tactic(auto, using(crate::specs::CodeLaws::inner_past, crate::specs::CodeLaws::inner_there))]
+fn inner_fine(program: &lookups::Program, outer: Counts, k: usize) -> bool
+    requires { program.now.codes < 4294967296 }
+    ensures { result ≡ inner_fine (codes_of program.now) (counted outer) k }
 {
-    if k >= codes {
-        return true;
-    }
-    let at = program::entry(rows, 10 * k + 4);
-    let count = program::entry(rows, 10 * k + 5);
-    captures_fine(program::part(image, at, 4 * count), count, outer)
+    k >= program.codes || captures_fine(program, outer, k)
 }
 
-// Do the captures of all codes in a code lie in it?
-fn all_inner_fine(
-    image: &[u8],
-    rows: &[u32],
-    inner: &[u32],
-    codes: usize,
-    from: usize,
-    n: Counts,
-) -> bool
-    requires { (from < 4294967296) × (n.codes < 4294967296) }
-    ensures { result ≡ all_inner_fine image.now rows.now inner.now codes from n }
+// Do the captures of all codes in code k lie in it?
+fn all_inner_fine(program: &lookups::Program, k: usize, n: Counts) -> bool
+    requires { (k < 4294967296) × (program.now.codes < 4294967296) × IsCounts program.now.image.now (flat program.now.rows.now) k n }
+    ensures { result ≡ all (inner_fine (codes_of program.now) (code_in program.now k)) (code_in program.now k).codes }
 {
-    (0..n.codes).all(|j| inner_fine(image, rows, codes, n, program::entry(inner, from + j)))
+    (0..program.code_count(k)).all(|j| inner_fine(program, n, program.inner_code(k, j)))
 }
 
 // Do the counts, opcodes and globals of code k keep their rules?
-fn own_fine(image: &[u8], rows: &[u32], k: usize, n: Counts) -> bool
-    requires { (k < 4294967296) × IsCounts image.now rows.now k n }
-    ensures { result ≡ own_fine image.now rows.now k n }
+#[tactic(auto, using(crate::specs::CodeLaws::some_opcodes, crate::specs::CodeLaws::counts_counted, crate::specs::CodeLaws::last_of), unfolding(image::specs::Records::both))]
+fn own_fine(program: &lookups::Program, k: usize, n: Counts) -> bool
+    requires { (k < 4294967296) × IsCounts program.now.image.now (flat program.now.rows.now) k n }
+    ensures { result ≡ own_fine (code_in program.now k) }
 {
     if !counts_fine(n) {
         return false;
     }
-    let at = program::entry(rows, 10 * k) + 14;
-    let count = n.opcodes;
-    if !opcodes_fine(program::part(image, at, 6 * count), n) {
-        return false;
-    }
-    if !last_fine(program::opcode_at(image, at, count - 1)) {
-        return false;
-    }
-    let globals = n.globals;
-    globals_fine(
-        program::part(image, program::entry(rows, 10 * k + 2), 2 * globals),
-        globals,
-    )
+    opcodes_fine(program, k, n)
+        && last_fine(program.opcode(k, n.opcodes - 1))
+        && globals_fine(program, k)
 }
 
 // Do the numbers of code k keep their rules, and the captures of the codes in it?
-fn code_fine(
-    image: &[u8],
-    rows: &[u32],
-    constants: &[u32],
-    inner: &[u32],
-    codes: usize,
-    k: usize,
-) -> bool
-    requires { k < 4294967296 }
-    ensures { result ≡ code_fine image.now (tab codes (code_at image.now rows.now constants.now inner.now)) (code_at image.now rows.now constants.now inner.now k) }
+#[tactic(auto, using(crate::specs::CodeLaws::code_is), unfolding(image::specs::Records::both))]
+fn code_fine(program: &lookups::Program, k: usize) -> bool
+    requires { (k < 4294967296) × (program.now.codes < 4294967296) }
+    ensures { result ≡ code_fine program.now.image.now (codes_of program.now) (code_in program.now k) }
 {
-    let n = counts_at(image, rows, k);
-    if !own_fine(image, rows, k, n) {
-        return false;
-    }
-    let from = program::entry(rows, 10 * k + 6);
-    if !constants_fine(image, constants, from, n.constants, n.codes) {
-        return false;
-    }
-    all_inner_fine(
-        image,
-        rows,
-        inner,
-        codes,
-        program::entry(rows, 10 * k + 8),
-        n,
-    )
+    let n = counts_at(program, k);
+    own_fine(program, k, n) && constants_fine(program, k) && all_inner_fine(program, k, n)
 }
 
 // Do the numbers of all codes keep their rules?
-fn all_fine(image: &[u8], rows: &[u32], constants: &[u32], inner: &[u32], codes: usize) -> bool
-    requires { codes < 4294967296 }
-    ensures { result ≡ program_fine image.now (tab codes (code_at image.now rows.now constants.now inner.now)) }
+fn all_fine(program: &lookups::Program) -> bool
+    requires { program.now.codes < 4294967296 }
+    ensures { result ≡ program_fine program.now.image.now (codes_of program.now) }
 {
-    (0..codes).all(|k| code_fine(image, rows, constants, inner, codes, k))
+    (0..program.codes).all(|k| code_fine(program, k))
 }
 
-// The same where only the front of each table is filled.
-fn tables_fine(image: &[u8], rows: &[u32], constants: &[u32], inner: &[u32], held: Sizes) -> bool
-    requires { Fits held.codes held.constants held.inner rows.now constants.now inner.now }
-    ensures { result ≡ program_fine image.now (tab held.codes (code_at image.now (take (10 * held.codes) rows.now) (take held.constants constants.now) (take held.inner inner.now))) }
+// The program of tables of which only the front is filled: so many codes, constants and numbers of inner codes.
+pub fn filled<'a>(
+    image: &'a [u8],
+    rows: &'a [Row],
+    constants: &'a [u32],
+    inner: &'a [u32],
+    sizes: Sizes,
+) -> lookups::Program<'a>
+    requires { Fits sizes.codes sizes.constants sizes.inner (flat rows.now) constants.now inner.now }
+    ensures { (result.image.now ≡ image.now) × (result.codes ≡ sizes.codes) × (codes_of result ≡ tab sizes.codes (code_at image.now (take (10 * sizes.codes) (flat rows.now)) (take sizes.constants constants.now) (take sizes.inner inner.now))) }
 {
-    let end = 10 * held.codes;
-    all_fine(
+    lookups::made(
         image,
-        &rows[..end],
-        &constants[..held.constants],
-        &inner[..held.inner],
-        held.codes,
+        &rows[..sizes.codes],
+        &constants[..sizes.constants],
+        &inner[..sizes.inner],
+        sizes.codes,
     )
 }
 
 // An image is read into the tables: its structure, then its numbers.
 pub fn read_image(
     image: &[u8],
-    rows: &mut [u32],
+    rows: &mut [Row],
     constants: &mut [u32],
     inner: &mut [u32],
 ) -> Result<Sizes, Refusal>
-    requires { (2560 ≤ length rows.old) × (10923 ≤ length constants.old) × (256 ≤ length inner.old) }
-    ensures { Reads image.now result rows.new constants.new inner.new }
+    requires { (256 ≤ length rows.old) × (10923 ≤ length constants.old) × (256 ≤ length inner.old) }
+    ensures { Reads image.now result (flat rows.new) constants.new inner.new }
 {
     let held = layout::read_layout(image, rows, constants, inner)?;
-    if tables_fine(image, rows, constants, inner, held) {
+    if all_fine(&filled(image, rows, constants, inner, held)) {
         return Ok(held);
     }
     Err(Refusal::ImageNumber)
@@ -310,7 +265,7 @@ pub fn read_image(
 pub fn refusal(image: &[u8]) -> u32
     ensures { result ≡ refusal_of (parse image.now) }
 {
-    let mut rows = [0u32; 2560];
+    let mut rows = [Row::NONE; 256];
     let mut constants = [0u32; 10923];
     let mut inner = [0u32; 256];
     let read = read_image(image, &mut rows, &mut constants, &mut inner);

@@ -30,6 +30,11 @@ abbrev pub given_at : Spot → Given
 given_at (Image p) = record { value = null; from = 0; start = p.start; size = p.size }
 given_at (Page p) = record { value = null; from = 1; start = p.start; size = p.size }
 
+-- the part of the image that a value names; another value is refused
+abbrev pub image_given : Option Place → Answer Given
+image_given (Some p) = accepted (given_at (Image p))
+image_given None = refused 5
+
 abbrev pub spotted : Result Spot Refusal → Answer Given
 spotted (Ok s) = accepted (given_at s)
 spotted (Err x) = refused (number x)

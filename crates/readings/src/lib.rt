@@ -8,10 +8,10 @@ ghost use Rattle.machine.specs.Calls.{text, bytes, get_global, get_builtin, line
 ghost use Rattle.form.specs.Entry.{entry};
 ghost use Rattle.asks.specs.Asks.{cell_of, got_by, part_by};
 ghost use Rattle.asks.specs.Entries.{says};
-ghost use Rattle.readings.specs.Readings.{is_feed, found_of, given_at, spotted, part_said, chosen, reading, texting, byting};
+ghost use Rattle.readings.specs.Readings.{is_feed, found_of, given_at, image_given, spotted, part_said, chosen, reading, texting, byting};
 
-use asks::{Got, Part, Place};
-use cells::Cell;
+use asks::{FROM_IMAGE, FROM_PAGE, Got, NAMES, Part, Place};
+use cells::{Cell, Tag};
 use refusals::Refusal;
 
 // A part of the image, or of the page of messages.
@@ -35,7 +35,7 @@ fn get_value(
     ensures { says result ≡ reading first number state.now (entry image.now state.now live.now store.now) }
 {
     asks::entered(image, state, live, store)?;
-    if number >= 256 {
+    if number >= NAMES {
         return Err(Refusal::BadValue);
     }
     Ok(cells::get(state, first + number as usize))
@@ -59,9 +59,9 @@ fn answered(found: Result<Spot, Refusal>) -> Part
 {
     let none = Place { start: 0, size: 0 };
     let (code, from, place) = match found {
-        Ok(Spot::Image(place)) => (0, 0, place),
-        Ok(Spot::Page(place)) => (0, 1, place),
-        Err(refusal) => (refusal.number(), 0, none),
+        Ok(Spot::Image(place)) => (0, FROM_IMAGE, place),
+        Ok(Spot::Page(place)) => (0, FROM_PAGE, place),
+        Err(refusal) => (refusal.number(), FROM_IMAGE, none),
     };
     Part {
         code,
@@ -102,8 +102,15 @@ fn message(page: &[u8], number: u32) -> Place
     line_of(page, number as usize - 1).unwrap_or(end)
 }
 
+// The part of the image that a value names.
+fn of_image(named: Option<Place>) -> Result<Spot, Refusal>
+    ensures { spotted result ≡ image_given named }
+{
+    named.map(Spot::Image).ok_or(Refusal::BadValue)
+}
+
 // Where the text of a Str stands.
-#[tactic(auto, using(crate::specs::ReadingLaws::text_not, crate::specs::ReadingLaws::message_low))]
+#[tactic(auto, using(crate::specs::ReadingLaws::text_not))]
 fn text_spot(
     image: &[u8],
     state: &[u8],
@@ -114,13 +121,14 @@ fn text_spot(
 ) -> Result<Spot, Refusal>
     ensures { spotted result ≡ texting page.now v state.now store.now (entry image.now state.now live.now store.now) }
 {
-    let place = asks::entered_with(image, state, live, store, v)?;
-    let tag = v.tag;
-    match tag {
-        4 => Ok(Spot::Image(place)),
-        20 => Ok(Spot::Page(message(page, v.number))),
-        _ => Err(Refusal::BadValue),
+    let named = asks::entered_with(image, state, live, store, v)?;
+    if v.is(Tag::Str) {
+        return of_image(named);
     }
+    if v.is(Tag::Message) {
+        return Ok(Spot::Page(message(page, v.number)));
+    }
+    Err(Refusal::BadValue)
 }
 
 // Where the bytes of a Bytes stand.
@@ -134,9 +142,9 @@ fn bytes_spot(
 ) -> Result<Spot, Refusal>
     ensures { spotted result ≡ byting v state.now store.now (entry image.now state.now live.now store.now) }
 {
-    let place = asks::entered_with(image, state, live, store, v)?;
-    if v.tag == 5 {
-        return Ok(Spot::Image(place));
+    let named = asks::entered_with(image, state, live, store, v)?;
+    if v.is(Tag::Bytes) {
+        return of_image(named);
     }
     Err(Refusal::BadValue)
 }
@@ -165,7 +173,7 @@ pub fn bytes(image: &[u8], state: &[u8], live: &[u8], store: &[u8], low: u64, hi
 pub fn text_of<'a>(image: &'a [u8], page: &'a [u8], at: Part) -> &'a [u8]
     ensures { result.now ≡ chosen image.now page.now at }
 {
-    let source = if at.from == 0 { image } else { page };
+    let source = if at.from == FROM_IMAGE { image } else { page };
     program::part(source, at.start as usize, at.len as usize)
 }
 

@@ -9,6 +9,7 @@ use Rattle.cells.specs.Cells.{null, room, cells, Sound}
 use Rattle.cells.specs.CellsLaws.{length_cells}
 use Rattle.cells.specs.declared.Cell.{Cell}
 use Rattle.image.specs.Records.{both}
+use Rattle.image.proofs.Parts.{both_true, both_false, both_swap}
 use Rattle.image.specs.Program.{all}
 use Rattle.machine.specs.Values.{Program, is_effect}
 use Rattle.machine.specs.Machine.{Object}
@@ -19,20 +20,13 @@ use Rattle.memory.proofs.FrameLaws.{value_is_lem, values_are}
 use Rattle.scan.specs.Passed.{Passed, passed_not, passed_more, passed_all}
 use Rattle.requests.specs.Returned.{return_fits, called_fits}
 use Rattle.requests.specs.Asked.{CalledFits}
-use Rattle.requests.specs.FitLaws.{both_true, both_false, reads_at}
+use Rattle.requests.specs.FitLaws.{reads_at}
 use Rattle.replies.specs.Replied.{ReturnFits}
 use Rattle.replies.specs.Pieces.{PerformedFits}
 use Rattle.replies.specs.declared.CallbackReturn.{CallbackReturn}
 use Rattle.replies.specs.declared.CallbackReturn.TheVariants.{Call, Perform, TailCall, TailPerform, ReturnValue, Error, Panic}
 
 -- ---- Effects
-both_swap : (a b : Bool) → both a b ≡ both b a
-unfolding both
-both_swap true true = refl
-both_swap true false = refl
-both_swap false true = refl
-both_swap false false = refl
-
 both_across : (a b c d : Bool) → both (both a b) (both c d) ≡ both (both b c) (both a d)
 unfolding both
 both_across true true c d = refl

@@ -23,7 +23,7 @@ use Rattle.replies.specs.Replied.{return_with, Plannable, PlansReturn}
 use Rattle.replies.specs.declared.CallbackReturn.{CallbackReturn}
 use Rattle.replies.specs.declared.CallbackReturn.TheVariants.{Call, Perform, TailCall, TailPerform, ReturnValue, Panic}
 use Rattle.replies.specs.declared.CallbackReturn.TheVariants as variants
-use Rattle.plan.specs.declared.ErrorKind.TheVariants as kinds
+use Rattle.results.specs.declared.ErrorKind.TheVariants as kinds
 use Rattle.plan.specs.Kinds.{kind_of}
 
 held_count : {P : Program} {m : M} {c : Counts} {L S : List Cell} {starts : List ℕ} {frames : ℕ} → Held P m c L S starts → c.frames ≡ frames → length m.frames ≡ frames

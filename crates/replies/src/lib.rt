@@ -14,6 +14,7 @@ ghost use Rattle.replies.specs.declared.CallbackReturn.TheVariants.{Call};
 use cells::Cell;
 use plan::{Error, ErrorKind, Plan};
 use refusals::Refusal;
+use scan::Objects;
 
 // `CallbackReturn`, or an error with a value.
 #[derive(Clone, Copy)]
@@ -72,10 +73,11 @@ fn effects_fit(program: &lookups::Program, store: &[u8], used: usize, x: &[u8]) 
     requires { used ≤ room store.now }
     ensures { result ≡ all (effect_fits (program_of program.now) (cells store.now) used) (cells x.now) }
 {
+    let objects = Objects { store, below: used };
     let n = cells::room(x);
     for i in 0..n {
         let e = cells::get(x, i);
-        if !scan::effect_fits(program, store, used, e) {
+        if !scan::effect_fits(program, &objects, e) {
             return false;
         }
     }
@@ -115,10 +117,11 @@ fn perform_fits(program: &lookups::Program, store: &[u8], used: usize, e: Cell, 
     if n > 4096 {
         return false;
     }
-    if !scan::effect_fits(program, store, used, e) {
+    let objects = Objects { store, below: used };
+    if !scan::effect_fits(program, &objects, e) {
         return false;
     }
-    scan::values_fit(program, store, used, args, 0, n)
+    scan::values_fit(program, &objects, args, 0, n)
 }
 
 // Does what an answer names exist, is a called value a Function and a performed one or a handler an Effect, and are there at most 4,096?
@@ -141,7 +144,7 @@ pub fn fits(
             perform_fits(program, store, used, e, args)
         }
         CallbackReturn::ReturnValue(v) | CallbackReturn::Error(v) | CallbackReturn::Panic(v) => {
-            scan::value_fits(program, store, used, v)
+            scan::value_fits(program, &Objects { store, below: used }, v)
         }
     }
 }

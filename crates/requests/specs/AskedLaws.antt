@@ -3,16 +3,17 @@ use Rattle.std.specs.Prelude.{◌≡◌, refl, List, ◌++◌, Bool, false, ℕ,
 use Rattle.std.proofs.Common.{sym, ap, ◌∙◌, append_assoc, arith}
 use Rattle.cells.specs.Cells.{cells}
 use Rattle.cells.specs.declared.Cell.{Cell}
-use Rattle.machine.specs.Values.{Program, Error, call_arguments, un_operator, bin_operator, meta_un_operator, meta_bin_operator, zero_divisor, lucia_error, lucia_panic}
+use Rattle.machine.specs.Values.{Program}
 use Rattle.machine.specs.Machine.{Result, running, returned, failed, unhandled, M, result_cost}
 use Rattle.machine.specs.Calls.{stops, World, world}
 use Rattle.machine.specs.Form.{TurnFits, top_of, Top, of_lucia, of_host, of_effect, of_none}
 use Rattle.machine.proofs.FormLaws.{MachineFits}
-use Rattle.memory.specs.Layout.{flat, error_shown, result_shown, state_cells, Holds}
+use Rattle.memory.specs.Layout.{flat, result_shown, state_cells, Holds}
 use Rattle.moves.specs.Frames.{Live}
 use Rattle.states.specs.Worlds.{Changes, Counted, Turned, with_counts, with_turn}
 use Rattle.plan.specs.Rest.{Block, Rests}
 use Rattle.plan.specs.declared.Counts.{Counts}
+use Rattle.plan.proofs.ErrorLaws.{shown_is}
 use Rattle.requests.specs.Sent.{Sent, sent_outcome}
 use Rattle.requests.specs.Asked.{rooms_of, Holding, LeavesWorld, SentWorld}
 
@@ -22,20 +23,10 @@ block_of w e = record { stale = w; is = e; globals = refl; builtins = refl; resu
 
 -- an effect result's arguments, by the state block
 pub args_cost : (r : Result) → length (result_shown r).args ≡ result_cost r
-unfolding result_shown result_cost error_shown
+unfolding result_shown result_cost
 args_cost running = refl
 args_cost (returned v) = refl
-args_cost (failed x) = error_none x
-  where
-    error_none : (x : Error) → length (error_shown x).args ≡ 0
-    error_none (call_arguments s u g) = refl
-    error_none (un_operator o x t) = refl
-    error_none (bin_operator o x t u) = refl
-    error_none (meta_un_operator n t) = refl
-    error_none (meta_bin_operator n t u) = refl
-    error_none zero_divisor = refl
-    error_none (lucia_error v) = refl
-    error_none (lucia_panic v) = refl
+args_cost (failed x) = ap length (shown_is x).2
 args_cost (unhandled e args) = refl
 
 module _ {P : Program} {w : World} {state live store : List ℕ} (h : Holding P w state live store) where

@@ -1,10 +1,9 @@
 -- A plan for a machine at rest: from the counts that it leaves to its refusal, or to what memory holds then.
-use Rattle.std.specs.Prelude.{◌≡◌, refl, List, Bool, true, false, ℕ, ◌≤◌, length, drop, ltb, Result, Ok, Err, OnOk, OnErr}
-use Rattle.std.proofs.Common.{sym, ap, subst, ◌∙◌, arith, ne_eqb, ltb-false}
+use Rattle.std.specs.Prelude.{◌≡◌, refl, List, false, ℕ, ◌≤◌, length, drop, Result, Ok, Err, OnOk, OnErr}
+use Rattle.std.proofs.Common.{sym, ap, subst, ◌∙◌, arith, ne_eqb}
 use Rattle.cells.specs.Cells.{room, cells}
 use Rattle.cells.specs.CellsLaws.{length_cells}
 use Rattle.cells.specs.declared.Cell.{Cell}
-use Rattle.image.specs.Records.{if?}
 use Rattle.machine.specs.Values.{Program}
 use Rattle.machine.specs.Machine.{M, used}
 use Rattle.machine.specs.Opcodes.{Action}
@@ -16,9 +15,10 @@ use Rattle.plan.specs.declared.Counts.{Counts}
 use Rattle.plan.specs.declared.Plan.{Plan}
 use Rattle.plan.specs.declared.Plan.TheVariants.{Starts, Resumes, Handles, Catches, Unhandled, Fails, Receives, Returns, Stays}
 use Rattle.counts.specs.Counted.{refusal_by, Ready, Countable}
-use Rattle.counts.specs.Judged.{judged}
+use Rattle.counts.specs.Judged.{judged, granted}
 use Rattle.actions.specs.Acted.{Roomy, Carriable, CarriesOut}
 use Rattle.refusals.specs.Refusals.{number}
+use Rattle.refusals.proofs.NumberLaws.{number_not_zero}
 use Rattle.refusals.specs.declared.Refusal.{Refusal}
 use Rattle.requests.specs.Asked.{Leavable, LeavesWorld, Finishable, FinishLeaves, Finishes, Leaves, finish_number}
 use Rattle.requests.specs.AskedLaws.{rests_holds}
@@ -33,18 +33,6 @@ ready_of (Fails x) m L l = tt
 ready_of (Receives v) m L l = l
 ready_of (Returns v) m L l = tt
 ready_of Stays m L l = tt
-
--- what is not refused has room
-pub granted : (z : Sizes) (c : Counts) → refusal_by z c ≡ 0 → (c.frames ≤ 256) × (c.live ≤ z.live) × (c.store ≤ z.store)
-unfolding refusal_by
-granted z c = by (ltb 256 c.frames) refl (ltb z.live c.live) refl (ltb z.store c.store) refl
-  where
-    by : (a : Bool) → ltb 256 c.frames ≡ a → (b : Bool) → ltb z.live c.live ≡ b → (d : Bool) → ltb z.store c.store ≡ d → ◌≡◌ {A = ℕ} (if? a 13 (if? b 14 (if? d 15 0))) 0
-        → (c.frames ≤ 256) × (c.live ≤ z.live) × (c.store ≤ z.store)
-    by true p b q d r e = absurd (omega arith)
-    by false p true q d r e = absurd (omega arith)
-    by false p false q true r e = absurd (omega arith)
-    by false p false q false r e = (ltb-false 256 c.frames p, ltb-false z.live c.live q, ltb-false z.store c.store r)
 
 -- ---- The needs of the calls, and the returns
 module _ (args : List ℕ) {plan : Plan} {c : Counts} {most : ℕ} {state live store starts : List ℕ} (s : Finishable plan (cells args) c most state live store starts) where
@@ -138,12 +126,8 @@ module _ (args : List ℕ) {plan : Plan} {c : Counts} {most : ℕ} {state live s
         }
 
 -- ---- By the machine's definition, which judges the same
--- no refusal has the number of what is done
-pub some : (r : Refusal) → number r ≡ 0 → ⊥
-some r = grind arith
-
 pub judged_leaves : (state live store : List ℕ) {z : Sizes} (d : Action) {m' : M} {r : Result ℕ Refusal} {state' live' store' : List ℕ} → handlers_left d ≤ 16 → FinishLeaves z m' r state' live' store'
     → OnOk r (drop (used m'.store) (cells store') ≡ drop (used m'.store) (cells store)) → OnErr r ((state' ≡ state) × (live' ≡ live) × (store' ≡ store))
     → Leaves (judge z d m') (finish_number r) state live store state' live' store'
 judged_leaves state live store {z} d {m'} {r = Ok n} few f free kept = rw (judged z d m' few, ← f.answer) (refl, f.holds, free)
-judged_leaves state live store {z} d {m'} {r = Err r} few f free kept = rw (judged z d m' few, ← f.answer, ne_eqb (number r) 0 (some r)) (refl, kept.0, kept.1, kept.2)
+judged_leaves state live store {z} d {m'} {r = Err r} few f free kept = rw (judged z d m' few, ← f.answer, ne_eqb (number r) 0 (number_not_zero r)) (refl, kept.0, kept.1, kept.2)

@@ -9,6 +9,7 @@ use Rattle.cells.specs.Cells.{room, cells}
 use Rattle.cells.specs.CellsLaws.{length_cells}
 use Rattle.cells.specs.declared.Cell.{Cell}
 use Rattle.image.specs.Records.{both}
+use Rattle.image.proofs.Parts.{both_true, both_false}
 use Rattle.image.specs.Program.{all}
 use Rattle.machine.specs.Values.{Program}
 use Rattle.machine.specs.Machine.{Object, used, function_of}
@@ -20,16 +21,6 @@ use Rattle.memory.proofs.FrameLaws.{value_is_lem, values_are}
 use Rattle.memory.proofs.StoreLaws.{reads}
 use Rattle.moves.specs.Objects.{Stored}
 use Rattle.requests.specs.Asked.{CalledFits}
-
-pub both_false : (a : Bool) → both a false ≡ false
-unfolding both
-both_false true = refl
-both_false false = refl
-
-pub both_true : (a : Bool) → both a true ≡ a
-unfolding both
-both_true true = refl
-both_true false = refl
 
 module _ (P : Program) (S : List Cell) (u : ℕ) where
   pub reads_at : (s : List Object) → Stored s S → StoreFits P [] s → u ≡ used s → Reads s S u

@@ -8,7 +8,7 @@ use Rattle.cells.specs.declared.Cell.{Cell}
 use Rattle.fuel.specs.Fuels.{consume, should_continue}
 use Rattle.fuel.specs.declared.Fuel.{Fuel}
 use Rattle.image.specs.Records.{if?, both, Answer, refused, accepted}
-use Rattle.image.proofs.Parts.{clash}
+use Rattle.std.proofs.lemmas.Bool.{false≢true}
 use Rattle.machine.specs.Values.{Program}
 use Rattle.machine.specs.Machine.{M}
 use Rattle.machine.specs.Opcodes.{Action, calls, Taken}
@@ -127,7 +127,7 @@ module _ (P : Program) (z : Sizes) (w : World) where
 
   -- what is refused ends at once, with a number that is not 0
   pub sent_stops : (fuel : Fuel) (s : Sent) {n : ℕ} → Lent fuel s → sent_outcome P z s w ≡ stops n → (sent_trace P z fuel s w ≡ ends n nothing fuel w) × (n ≡ 0 → ⊥)
-  sent_stops fuel s {n} l e = (sent_trace_lem fuel s l ∙ ap (trace_by fuel s w) e, λ i. let k : among n refusals ≡ true = rw e at (sent_refusals s) in clash (rw i at k))
+  sent_stops fuel s {n} l e = (sent_trace_lem fuel s l ∙ ap (trace_by fuel s w) e, λ i. let k : among n refusals ≡ true = rw e at (sent_refusals s) in false≢true (rw i at k))
 
   -- what is done is one step
   pub sent_does : (fuel : Fuel) (s : Sent) {d : Action} {m : M} → Lent fuel s → sent_outcome P z s w ≡ does d m → Traced fuel s w d m (sent_trace P z fuel s w)

@@ -1,25 +1,27 @@
 -- A start: from the tests to the machine that is called, whose plan is finished.
-use Rattle.std.specs.Prelude.{◌≡◌, Bool, true, false, not, ℕ, ◌+◌, ◌%◌, ◌<◌, ◌≤◌}
+use Rattle.std.specs.Prelude.{◌≡◌, Bool, true, false, not, eqb, ℕ, ◌+◌, ◌%◌, ◌<◌, ◌≤◌}
 use Rattle.std.specs.Prelude as std
 use Rattle.std.proofs.Math.Path.{refl, sym, subst}
 use Rattle.std.proofs.Common.{ap, ◌∙◌, arith}
 use mathlib.Core.List.{List, [], ◌∷◌}
 use Rattle.std.proofs.Math.ListN.{length}
 use Rattle.std.proofs.lemmas.Result.{on_ok_weaker}
-use borrow.Author.Tests.{not-true, not-false, eq-eqb, ne_eqb, leb-true}
+use borrow.Author.Tests.{not-true, not-false, eqb-true, eqb-false, eq-eqb, ne_eqb, leb-true}
 use Rattle.cells.specs.Cells.{room, cells}
 use Rattle.cells.specs.declared.Cell.{Cell}
-use Rattle.image.proofs.Parts.{clash, first, second}
-use Rattle.machine.specs.Values.{Program, Error, call_arguments, un_operator, bin_operator, meta_un_operator, meta_bin_operator, zero_divisor, lucia_error, lucia_panic}
+use Rattle.std.proofs.lemmas.Bool.{false≢true}
+use Rattle.image.proofs.Parts.{first, second}
+use Rattle.machine.specs.Values.{Program}
 use Rattle.machine.specs.Machine.{Frame, Result, running, returned, failed, unhandled, M, frames_cost, result_cost, used, function_of, call_function}
 use Rattle.machine.specs.Opcodes.{calls, doing}
 use Rattle.machine.specs.Calls.{Sizes, top_handlers, handlers_left, judge, outcome, World, is_value, start, fit, idle, request_action}
-use Rattle.memory.specs.Layout.{flat, error_shown, result_shown, state_cells}
+use Rattle.memory.specs.Layout.{flat, result_shown, state_cells}
 use Rattle.moves.specs.Objects.{Stored}
 use Rattle.plan.specs.Rest.{counts_of, Held, Rests}
 use Rattle.plan.specs.Plans.{Carries}
 use Rattle.plan.specs.declared.Counts.{Counts}
 use Rattle.plan.specs.declared.Plan.{Plan}
+use Rattle.plan.proofs.ErrorLaws.{shown_is}
 use Rattle.calls.specs.Called.{Callable, CallsFunction}
 use Rattle.refusals.specs.Refusals.{number}
 use Rattle.refusals.specs.declared.Refusal.{Refusal}
@@ -33,10 +35,10 @@ use Rattle.requests.specs.FinishLaws.{judged_leaves}
 idle_is : (r : Result) (F : List Frame) → idle r F ≡ true → (r ≡ running) × (F ≡ [])
 unfolding idle
 idle_is running [] t = (refl, refl)
-idle_is running (f ∷ F) t = absurd (clash t)
-idle_is (returned v) F t = absurd (clash t)
-idle_is (failed x) F t = absurd (clash t)
-idle_is (unhandled e args) F t = absurd (clash t)
+idle_is running (f ∷ F) t = absurd (false≢true t)
+idle_is (returned v) F t = absurd (false≢true t)
+idle_is (failed x) F t = absurd (false≢true t)
+idle_is (unhandled e args) F t = absurd (false≢true t)
 
 frames_busy : (r : Result) (F : List Frame) → (length F ≡ 0 → ⊥) → idle r F ≡ false
 unfolding idle
@@ -53,23 +55,12 @@ result_busy (returned v) F n = refl
 result_busy (failed x) F n = refl
 result_busy (unhandled e args) F n = refl
 
-error_some : (x : Error) → 0 < (error_shown x).kind
-unfolding error_shown
-error_some (call_arguments s u g) = omega arith
-error_some (un_operator o x t) = omega arith
-error_some (bin_operator o x t u) = omega arith
-error_some (meta_un_operator n t) = omega arith
-error_some (meta_bin_operator n t u) = omega arith
-error_some zero_divisor = omega arith
-error_some (lucia_error v) = omega arith
-error_some (lucia_panic v) = omega arith
-
 is_idle : (r : Result) (F : List Frame) → length F ≡ 0 → (result_shown r).kind ≡ 0 → idle r F ≡ true
 unfolding idle result_shown
 is_idle running [] n k = refl
 is_idle running (f ∷ F) n k = absurd (omega arith)
 is_idle (returned v) F n k = absurd (omega arith)
-is_idle (failed x) F n k = absurd (omega (arith, error_some x))
+is_idle (failed x) F n k = absurd (omega (arith, (shown_is x).1))
 is_idle (unhandled e args) F n k = absurd (omega arith)
 
 -- the machine once f is called
@@ -158,15 +149,15 @@ module _ (P : Program) (f : Cell) (args state live store : List ℕ) where
     unfolding sent_outcome in_turn
     start_frames ne = sent_refused (λ w h. rw (frames_busy w.machine.result w.machine.frames (λ e. ne (a w h.holds.state ∙ e))) refl)
 
-    -- the kind of its result
-    module _ {k : ℕ} (none : n ≡ 0) (b : (w : World) → cells state ≡ state_cells w → k ≡ (result_shown w.machine.result).kind) where
-      pub start_result : (k ≡ 0 → ⊥) → SentWorld P (starting f args) 11 state live store state live store
+    -- whether it has a result
+    module _ {k : Bool} (none : n ≡ 0) (b : (w : World) → cells state ≡ state_cells w → k ≡ not (eqb (result_shown w.machine.result).kind 0)) where
+      pub start_result : k ≡ true → SentWorld P (starting f args) 11 state live store state live store
       unfolding sent_outcome in_turn
-      start_result ne = sent_refused (λ w h. rw (result_busy w.machine.result w.machine.frames (λ e. ne (b w h.holds.state ∙ e))) refl)
+      start_result t = sent_refused (λ w h. rw (result_busy w.machine.result w.machine.frames (eqb-false _ 0 (not-true _ (sym (b w h.holds.state) ∙ t)))) refl)
 
-      module _ (zero : k ≡ 0) where
+      module _ (zero : k ≡ false) where
         idle_in : (w : World) → Holding P w state live store → idle w.machine.result w.machine.frames ≡ true
-        idle_in w h = is_idle w.machine.result w.machine.frames (sym (a w h.holds.state) ∙ none) (sym (b w h.holds.state) ∙ zero)
+        idle_in w h = is_idle w.machine.result w.machine.frames (sym (a w h.holds.state) ∙ none) (eqb-true _ 0 (not-false _ (sym (b w h.holds.state) ∙ zero)))
 
         pub start_odd : (length args % 16 ≡ 0 → ⊥) → SentWorld P (starting f args) 5 state live store state live store
         unfolding sent_outcome in_turn request_of asking

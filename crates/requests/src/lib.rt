@@ -11,6 +11,7 @@ ghost use Rattle.requests.specs.Asked.{Entered, Leavable, LeavesWorld, Finishabl
 use cells::Cell;
 use plan::{Counts, Plan};
 use refusals::Refusal;
+use scan::Objects;
 
 // The state block shows counts, slice and wait again.
 pub fn leave(state: &mut [u8], c: Counts, left: u32, wait: u32)
@@ -55,7 +56,8 @@ pub fn called_fits(
     requires { (used ≤ room store.now) × (handlers < 4294967296) }
     ensures { CalledFits (program_of program.now) used f (cells args.now) handlers result (cells store.now) }
 {
-    if !scan::value_fits(program, store, used, f) {
+    let objects = Objects { store, below: used };
+    if !scan::value_fits(program, &objects, f) {
         return false;
     }
     if !calls::is_function(f) {
@@ -65,7 +67,7 @@ pub fn called_fits(
     if n + handlers > 4096 {
         return false;
     }
-    scan::values_fit(program, store, used, args, 0, n)
+    scan::values_fit(program, &objects, args, 0, n)
 }
 
 // A start that passed its tests: it is planned and finished.
@@ -109,7 +111,7 @@ pub fn start(
     if states::frames(state) != 0 {
         return Err(Refusal::OutOfTurn);
     }
-    if states::result_kind(state) != 0 {
+    if states::has_result(state) {
         return Err(Refusal::OutOfTurn);
     }
     if args.len() % 16 != 0 {

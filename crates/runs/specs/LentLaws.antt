@@ -7,12 +7,13 @@ use Rattle.fuel.specs.declared.Fuel.{Fuel}
 use Rattle.machine.specs.Values.{Program}
 use Rattle.machine.specs.Machine.{frames_cost, used}
 use Rattle.machine.specs.Calls.{World}
-use Rattle.machine.specs.Form.{Top, of_lucia, of_host, of_effect, of_none, TurnFits, top_of}
+use Rattle.machine.specs.Form.{top_of}
+use Rattle.machine.proofs.FormLaws.{turn_most}
 use Rattle.memory.specs.Layout.{flat, bit, state_cells}
 use Rattle.memory.specs.View.{frames_size}
 use Rattle.memory.proofs.Lists.{length_flat}
 use Rattle.moves.specs.Starts.{Starting, frames_lower}
-use Rattle.plan.specs.Rest.{Same}
+use Rattle.plan.proofs.RestLaws.{same_refl, same_join}
 use Rattle.plan.specs.declared.Counts.{Counts}
 use Rattle.acts.specs.Acted.{Resting}
 use Rattle.groups.specs.Grouped.{stood, Groupable, Ran, Runs}
@@ -29,25 +30,8 @@ use Rattle.refusals.specs.declared.Refusal.TheVariants.{OutOfTurn}
 abbrev Shows : List ℕ → (World → ℕ) → ℕ → Type 0
 Shows state f n = (w : World) → cells state ≡ state_cells w → n ≡ f w
 
-low_turn : (t : Top) (b : Bool) (left : ℕ) → TurnFits t b left → left ≤ 64
-low_turn of_lucia b left h = h.1
-low_turn of_host b left h = omega (arith, h)
-low_turn of_effect b left h = omega (arith, h.1)
-low_turn of_none b left h = omega (arith, h.1)
-
-bit_true : (b : Bool) → (bit b ≡ 0 → ⊥) → b ≡ true
-bit_true true h = refl
-bit_true false h = absurd (h refl)
-
-bit_false : (b : Bool) → bit b ≡ 0 → b ≡ false
-bit_false true h = absurd (omega (arith, h))
-bit_false false h = refl
-
-same_refl : (a : List ℕ) → Same a a
-same_refl a = record { rest = refl; len = refl }
-
-same_both : {a b c : List ℕ} → Same a b → Same b c → Same a c
-same_both x y = record { rest = y.rest ∙ x.rest; len = y.len ∙ x.len }
+abbrev Waits : List ℕ → Bool → Type 0
+Waits state b = (w : World) → cells state ≡ state_cells w → b ≡ w.wait
 
 module _ {P : Program} {state live store : List ℕ} (x : Entered P state live store) where
   abbrev in_state : cells state ≡ state_cells x.world
@@ -79,7 +63,7 @@ module _ {P : Program} {state live store : List ℕ} (x : Entered P state live s
     lent_resting w h = resting_of h x.accepted x.small.0 x.small.1 (s.len ∙ table) (f w h.holds.state) s q (g w h.holds.state)
 
     lent_low : (w : World) → Holding P w state live store → left ≤ 64
-    lent_low w h = omega (arith, k w h.holds.state, low_turn (top_of w.machine.result w.machine.frames) w.wait w.slice h.fits.turn)
+    lent_low w h = omega (arith, k w h.holds.state, turn_most (top_of w.machine.result w.machine.frames) w.wait w.slice h.fits.turn)
 
     pub lent_groupable : {args : List ℕ} → 65536 ≤ length args → Groupable P lent_counts left state live store starts args
     lent_groupable a = record {
@@ -97,37 +81,37 @@ module _ {P : Program} {state live store : List ℕ} (x : Entered P state live s
           subst (λ (n : ℕ). Ran P (rooms_of live store) t fuel n v.machine r (cells state₁) (cells live') (cells store') starts') (k v h.holds.state)
           (w.acts (rooms_of live store) v.machine (lent_resting v h) (lent_low v h))
 
-      pub lent_leavable : Leavable r.counts state₁
+      pub lent_leavable : Leavable r.turn.counts state₁
       lent_leavable =
           let a = lent_ran x.world x.holding in
           record { frames = omega (arith, ap (λ (c : Counts). c.frames) a.resting.rests.counts, a.resting.fits.few); block = w.bounded.same_state.len ∙ x.block }
 
       -- the state block shows what the run leaves
-      lent_leaves : {on wait : ℕ} {state' : List ℕ} → Shows state (λ w. bit w.wait) on → on ≡ 0 → wait ≡ bit (eqb (code_of r.stand) 103) → LeavesWorld r.counts r.left wait state₁ state'
+      lent_leaves : {on : Bool} {wait : ℕ} {state' : List ℕ} → Waits state on → on ≡ false → wait ≡ bit (eqb (code_of r.stand) 103) → LeavesWorld r.turn.counts r.turn.left wait state₁ state'
           → RunsWorld P fuel t r state live store state' live' store'
       lent_leaves {wait = wait} b z o l =
-          let none : (v : World) → Holding P v state live store → v.wait ≡ false = λ v h. bit_false v.wait (sym (b v h.holds.state) ∙ z) in
+          let none : (v : World) → Holding P v state live store → v.wait ≡ false = λ v h. sym (b v h.holds.state) ∙ z in
           record {
             leaves = λ v h a. ran_leaves P (rooms_of live store) fuel t v (none v h) (lent_ran v h) refl wait o l;
             untouched = λ v h e. let y : true ≡ false = sym e ∙ none v h in let c : ◌≡◌ {A = ℕ} 0 1 = cc in absurd (omega arith);
-            same_state = same_both w.bounded.same_state l.same;
+            same_state = same_join w.bounded.same_state l.same;
             same_live = w.bounded.same_live;
             same_store = w.bounded.same_store;
             free = λ v h a. subst (λ (n : ℕ). drop n (cells store') ≡ drop n (cells store)) (ran_uses P (rooms_of live store) fuel t v (none v h) (lent_ran v h)) w.appends.free;
           }
 
-      pub lent_waits : {on : ℕ} {state' : List ℕ} → Shows state (λ w. bit w.wait) on → on ≡ 0 → code_of r.stand ≡ 103 → LeavesWorld r.counts r.left 1 state₁ state'
+      pub lent_waits : {on : Bool} {state' : List ℕ} → Waits state on → on ≡ false → code_of r.stand ≡ 103 → LeavesWorld r.turn.counts r.turn.left 1 state₁ state'
           → RunsWorld P fuel t r state live store state' live' store'
       lent_waits b z e l = lent_leaves b z (rw (eq-eqb (code_of r.stand) 103 e) refl) l
 
-      pub lent_ends : {on : ℕ} {state' : List ℕ} → Shows state (λ w. bit w.wait) on → on ≡ 0 → (code_of r.stand ≡ 103 → ⊥) → LeavesWorld r.counts r.left 0 state₁ state'
+      pub lent_ends : {on : Bool} {state' : List ℕ} → Waits state on → on ≡ false → (code_of r.stand ≡ 103 → ⊥) → LeavesWorld r.turn.counts r.turn.left 0 state₁ state'
           → RunsWorld P fuel t r state live store state' live' store'
       lent_ends b z e l = lent_leaves b z (rw (ne_eqb (code_of r.stand) 103 e) refl) l
 
   -- a run during a wait is out of turn
-  pub lent_turn : {fuel : Fuel} {t left on : ℕ} {c : Counts} → Shows state (λ w. bit w.wait) on → (on ≡ 0 → ⊥) → RunsWorld P fuel t (stood (stand.Refused OutOfTurn) fuel t left c) state live store state live store
-  lent_turn {fuel} {t} b n = record {
-    leaves = λ v h a. wait_leaves P (rooms_of live store) fuel t v (bit_true v.wait (λ e. n (b v h.holds.state ∙ e))) h refl refl refl;
+  pub lent_turn : {fuel : Fuel} {t left : ℕ} {on : Bool} {c : Counts} → Waits state on → on ≡ true → RunsWorld P fuel t (stood (stand.Refused OutOfTurn) fuel t left c) state live store state live store
+  lent_turn {fuel} {t} b o = record {
+    leaves = λ v h a. wait_leaves P (rooms_of live store) fuel t v (sym (b v h.holds.state) ∙ o) h refl refl refl;
     untouched = λ v h e. (refl, refl, refl);
     same_state = same_refl state;
     same_live = same_refl live;

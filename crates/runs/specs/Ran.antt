@@ -1,5 +1,5 @@
 -- A run, once the call is entered and as a call, by the machine's definition of it.
-use Rattle.std.specs.Prelude.{◌≡◌, List, Bool, true, ℕ, ◌-◌, ◌≤◌, length, drop}
+use Rattle.std.specs.Prelude.{◌≡◌, List, Bool, true, ℕ, ◌-◌, ◌≤◌, length, drop, Result, Ok, Err}
 use Rattle.cells.specs.Cells.{cells, rest}
 use Rattle.fuel.specs.Loans.{read, write}
 use Rattle.fuel.specs.declared.Fuel.{Fuel}
@@ -9,6 +9,8 @@ use Rattle.machine.specs.Values.{Program}
 use Rattle.machine.specs.Machine.{used}
 use Rattle.machine.specs.Calls.{Sizes, World, runs, Trace, call_of, answer_of, steps_of, fuel_after, world_after}
 use Rattle.memory.specs.Layout.{Holds}
+use Rattle.refusals.specs.Refusals.{number}
+use Rattle.refusals.specs.declared.Refusal.{Refusal}
 use Rattle.form.specs.Entry.{entry, live_of, store_of}
 use Rattle.plan.specs.Rest.{Same}
 use Rattle.groups.specs.declared.Group.{Group}
@@ -21,9 +23,9 @@ use Rattle.groups.specs.Grouped.{code_of}
 -- ---- A run
 pub record RunLeaves (t : Trace) (ticks : ℕ) (r : Group) (state' live' store' : List ℕ) : Type 0 where
   pub answer : code_of r.stand ≡ answer_of t
-  pub taken : ticks - r.ticks ≡ length (steps_of t)
-  pub most : r.ticks ≤ ticks
-  pub fuel : r.fuel ≡ fuel_after t
+  pub taken : ticks - r.turn.ticks ≡ length (steps_of t)
+  pub most : r.turn.ticks ≤ ticks
+  pub fuel : r.turn.fuel ≡ fuel_after t
   pub holds : Holds (world_after t) (cells state') (cells live') (cells store')
 
 pub record RunsWorld (P : Program) (fuel : Fuel) (ticks : ℕ) (r : Group) (state live store state' live' store' : List ℕ) : Type 0 where
@@ -44,6 +46,11 @@ pub record RunsLoans (P : Program) (fuel : Fuel) (ticks : ℕ) (r : Group) (stat
 -- ---- As a call: "6, 1, then 2 and 4, 3, 10, 7, 11"
 abbrev pub ran_of : ℕ → ℕ → Ran
 ran_of n t = record { code = n; ticks = t }
+
+-- a refusal by its number, and no ticks
+abbrev pub ran_said : Result Ran Refusal → Ran
+ran_said (Ok r) = r
+ran_said (Err x) = ran_of (number x) 0
 
 -- a run that begins: its answer, ticks, fuel and memory are the definition's; cells behind the store's objects, bytes behind what is used and behind the last whole cell do not change, and one that is out of turn leaves every byte
 pub record RunDone (t : Trace) (wait : Bool) (r : Ran) (state live store fuel state' live' store' fuel' : List ℕ) : Type 0 where

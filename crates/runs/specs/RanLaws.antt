@@ -9,7 +9,7 @@ use Rattle.fuel.specs.declared.Fuel.{Fuel}
 use Rattle.image.specs.Fine.{Accepted}
 use Rattle.machine.specs.Values.{Program}
 use Rattle.machine.specs.Machine.{frames_cost, result_cost, used}
-use Rattle.machine.specs.Calls.{Sizes, World, world, nothing, ends, runs, run, call_of, answer_of, steps_of, fuel_after, world_after}
+use Rattle.machine.specs.Calls.{Sizes, World, nothing, ends, runs, run, call_of, answer_of, steps_of, fuel_after, world_after}
 use Rattle.memory.specs.Layout.{flat, bit, result_shown}
 use Rattle.moves.specs.Starts.{Starting, starting_lower, starting_used}
 use Rattle.plan.specs.declared.Counts.{Counts}
@@ -58,7 +58,7 @@ module _ (P : Program) (z : Sizes) (fuel : Fuel) (t : ℕ) (w : World) where
   call_waits e = rw e refl
 
   pub ran_leaves : {r : Group} {B : List Cell} {starts state state' live' store' : List ℕ} → w.wait ≡ false → Ran P z t fuel w.slice w.machine r B (cells live') (cells store') starts → B ≡ cells state
-      → (wait : ℕ) → wait ≡ bit (eqb (code_of r.stand) 103) → LeavesWorld r.counts r.left wait state state' → RunLeaves (call_of P z (runs t fuel) w) t r state' live' store'
+      → (wait : ℕ) → wait ≡ bit (eqb (code_of r.stand) 103) → LeavesWorld r.turn.counts r.turn.left wait state state' → RunLeaves (call_of P z (runs t fuel) w) t r state' live' store'
   unfolding answer_of steps_of fuel_after world_after
   ran_leaves {r} e a q wait o l =
       let f = a.follows in
@@ -68,14 +68,14 @@ module _ (P : Program) (z : Sizes) (fuel : Fuel) (t : ℕ) (w : World) where
         taken = omega (arith, f.taken);
         most = a.less;
         fuel = sym f.fuel;
-        holds = rw f.world (rests_holds (eqb (code_of r.stand) 103) r.left a.resting.rests s);
+        holds = rw f.world (rests_holds (eqb (code_of r.stand) 103) r.turn.left a.resting.rests s);
       })
 
   -- how much of the store is used then
-  pub ran_uses : {r : Group} {B L S : List Cell} {starts : List ℕ} → w.wait ≡ false → Ran P z t fuel w.slice w.machine r B L S starts → r.counts.store ≡ used (world_after (call_of P z (runs t fuel) w)).machine.store
+  pub ran_uses : {r : Group} {B L S : List Cell} {starts : List ℕ} → w.wait ≡ false → Ran P z t fuel w.slice w.machine r B L S starts → r.turn.counts.store ≡ used (world_after (call_of P z (runs t fuel) w)).machine.store
   unfolding world_after
   ran_uses e a = rw (call_runs e, a.follows.world) (ap (λ (c : Counts). c.store) a.resting.rests.counts)
 
-  pub wait_leaves : {r : Group} {state live store : List ℕ} → w.wait ≡ true → Holding P w state live store → code_of r.stand ≡ 11 → r.ticks ≡ t → r.fuel ≡ fuel → RunLeaves (call_of P z (runs t fuel) w) t r state live store
+  pub wait_leaves : {r : Group} {state live store : List ℕ} → w.wait ≡ true → Holding P w state live store → code_of r.stand ≡ 11 → r.turn.ticks ≡ t → r.turn.fuel ≡ fuel → RunLeaves (call_of P z (runs t fuel) w) t r state live store
   unfolding answer_of steps_of fuel_after world_after
   wait_leaves e h a b c = rw (call_waits e) (record { answer = a; taken = omega (arith, b); most = omega (arith, b); fuel = c; holds = h.holds })

@@ -1,15 +1,14 @@
 // A run as a call: fuel and memory are tested, memory in form becomes a machine at rest, the run goes, and the state block shows what it leaves.
 #![tactic(auto)]
 
-ghost use Rattle.std.specs.Prelude.{◌*◌, take};
-ghost use Rattle.reader.specs.Reads.{Fits};
 ghost use Rattle.scan.specs.Tables.{program_of};
 ghost use Rattle.requests.specs.Asked.{Entered};
 ghost use Rattle.loans.specs.Loans.{front_live, front_store};
-ghost use Rattle.runs.specs.Ran.{RunsWorld, RunsLoans, RunCalled};
+ghost use Rattle.runs.specs.Ran.{RunsWorld, RunsLoans, RunCalled, ran_said};
 
+use form::Tables;
 use fuel::Fuel;
-use groups::{Group, Stand};
+use groups::{Group, Stand, Turn};
 use plan::Counts;
 use refusals::Refusal;
 
@@ -43,32 +42,24 @@ fn run_lent(
         store: states::used(state) as usize,
     };
     let left = states::slice(state);
-    if states::waits(state) != 0 {
-        return Group {
-            stand: Stand::Refused(Refusal::OutOfTurn),
-            fuel,
-            ticks,
-            left,
-            counts: c,
-        };
-    }
-    let r = groups::run(
-        program,
-        state,
-        live,
-        store,
-        &mut starts,
-        &mut args,
+    let turn = Turn {
         fuel,
         ticks,
         left,
-        c,
-    );
+        counts: c,
+    };
+    if states::waits(state) {
+        return Group {
+            stand: Stand::Refused(Refusal::OutOfTurn),
+            turn,
+        };
+    }
+    let r = groups::run(program, state, live, store, &mut starts, &mut args, turn);
     if let Stand::Host = r.stand {
-        requests::leave(state, r.counts, r.left, 1);
+        requests::leave(state, r.turn.counts, r.turn.left, 1);
         return r;
     }
-    requests::leave(state, r.counts, r.left, 0);
+    requests::leave(state, r.turn.counts, r.turn.left, 0);
     r
 }
 
@@ -84,12 +75,36 @@ fn run_entered(
     requires { Entered (program_of program.now) state.old (front_live live.old) (front_store store.old) }
     ensures { RunsLoans (program_of program.now) fuel ticks result state.old live.old store.old state.new live.new store.new }
 {
-    let l = loans::lent_bytes(live.len(), 65536);
-    let s = loans::lent_bytes(store.len(), 1048576);
-    run_lent(program, state, &mut live[..l], &mut store[..s], fuel, ticks)
+    let (live, _) = loans::parted(live, 65536);
+    let (store, _) = loans::parted(store, 1048576);
+    run_lent(program, state, live, store, fuel, ticks)
 }
 
-// A run of so many ticks: its answer and the ticks taken.
+// A run whose loans are as they must be: its answer and the ticks taken.
+#[tactic(auto, using(form::specs::EntryLaws::enters_low, crate::specs::CallLaws::call_unlent))]
+fn try_run(
+    image: &[u8],
+    state: &mut [u8],
+    live: &mut [u8],
+    store: &mut [u8],
+    fuel: &mut [u8],
+    ticks: u32,
+) -> Result<Ran, Refusal>
+    ensures { RunCalled image.now ticks (ran_said result) state.old live.old store.old fuel.old state.new live.new store.new fuel.new }
+{
+    let lent = fuel::read(fuel)?;
+    let mut tables = Tables::new();
+    let sizes = tables.enter(image, state, live, store)?;
+    let program = tables.program(image, sizes);
+    let r = run_entered(&program, state, live, store, lent, ticks);
+    fuel::write(fuel, r.turn.fuel);
+    Ok(Ran {
+        code: r.stand.code(),
+        ticks: ticks - r.turn.ticks,
+    })
+}
+
+// A run of so many ticks: its answer and the ticks taken, none where it is refused.
 pub fn run(
     image: &[u8],
     state: &mut [u8],
@@ -100,38 +115,8 @@ pub fn run(
 ) -> Ran
     ensures { RunCalled image.now ticks result state.old live.old store.old fuel.old state.new live.new store.new fuel.new }
 {
-    match fuel::read(fuel) {
-        Err(refusal) => Ran {
-            code: refusal.number(),
-            ticks: 0,
-        },
-        Ok(f) => {
-            let mut rows = [0u32; 2560];
-            let mut constants = [0u32; 10923];
-            let mut inner = [0u32; 256];
-            match form::enter(
-                image,
-                state,
-                live,
-                store,
-                &mut rows,
-                &mut constants,
-                &mut inner,
-            ) {
-                Err(refusal) => Ran {
-                    code: refusal.number(),
-                    ticks: 0,
-                },
-                Ok(sizes) => {
-                    let program = form::filled(image, &rows, &constants, &inner, sizes);
-                    let r = run_entered(&program, state, live, store, f, ticks);
-                    fuel::write(fuel, r.fuel);
-                    Ran {
-                        code: r.stand.code(),
-                        ticks: ticks - r.ticks,
-                    }
-                }
-            }
-        }
-    }
+    try_run(image, state, live, store, fuel, ticks).unwrap_or_else(|refusal| Ran {
+        code: refusal.number(),
+        ticks: 0,
+    })
 }

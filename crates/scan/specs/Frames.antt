@@ -1,4 +1,4 @@
--- A whole frame, and frames one after the other: what is behind a head, one law for each return of `frame_fits`, and the loop of `frames_fit`.
+-- A whole frame, and frames one after the other: one law for each return of `frame_fits`, and the loop of `frames_fit`.
 use Rattle.std.specs.Prelude.{◌≡◌, List, Bool, Option, Some, None, not, ℕ, suc, ◌+◌, ◌*◌, ◌-◌, ◌<◌, ◌≤◌, get_or, take, drop, leb}
 use Rattle.std.proofs.Math.Path.{sym, ap}
 use Rattle.std.proofs.Common.{◌∙◌}
@@ -9,91 +9,83 @@ use Rattle.std.proofs.Math.Seq.{drop-drop}
 use borrow.Author.Tests.{not-true, not-false, leb-true, le-leb, lt-leb}
 use Rattle.cells.specs.Cells.{null, room, cells}
 use Rattle.cells.specs.CellsLaws.{length_cells}
+use Rattle.cells.specs.Parts.{part_end, cells_end}
 use Rattle.cells.specs.declared.Cell.{Cell}
 use Rattle.image.specs.Records.{both}
-use Rattle.image.specs.Program.{all}
 use Rattle.image.proofs.Parts.{first, second}
 use Rattle.machine.specs.Values.{Program}
 use Rattle.memory.specs.View.{frame_size, frames_size}
-use Rattle.memory.specs.Tests.{spare_fits, value_fits, kind_fits, limit_of, handlers_fit, head_fits, body_fits, frame_fits, frames_fit}
+use Rattle.memory.specs.Tests.{spare_fits, kind_fits, limit_of, head_fits, body_fits, frame_fits, frames_fit}
 use Rattle.std.specs.Bool.{then_some}
 use Rattle.scan.specs.Answers.{some_fits, some_is, none_fits}
-use Rattle.scan.specs.Heads.{locals_is, handlers_is, stack_is, ended}
-
--- ---- the cells behind a head
-module _ (s : List ℕ) (at : ℕ) {l h k : ℕ} (p : l ≡ (get_or (cells s) at null).number) (q : h ≡ (get_or (cells s) at null).payload) (w : k ≡ (get_or (cells s) (at + 2) null).payload) where
-  module _ (P : Program) (S : List Cell) (b : ℕ) {limit : ℕ} (m : limit ≡ limit_of P S b (drop at (cells s))) where
-    pub body_is : body_fits P S b (drop at (cells s))
-        ≡ both (all (value_fits P S b) (take l (drop (at + 6) (cells s))))
-        (both (handlers_fit P S b limit h (drop (at + 6 + l) (cells s))) (all (value_fits P S b) (take k (drop (at + 6 + l + 2 * h) (cells s)))))
-    unfolding body_fits
-    body_is =
-        let a : at + (6 + l) ≡ at + 6 + l = omega arith in
-        let c : at + (6 + l + 2 * h) ≡ at + 6 + l + 2 * h = omega arith in
-        simp (locals_is (cells s) at p, handlers_is (cells s) at q, stack_is (cells s) at w, sym m, drop-drop, a, c)
-
-pub ended_inside : (s : List ℕ) (at : ℕ) {z : Option ℕ} {end : ℕ} → z ≡ ended (cells s) at → z ≡ Some end → at ≤ room s → at + frame_size (drop at (cells s)) ≤ room s
-ended_inside s at {z} {end} y j l =
-    let e : leb (frame_size (drop at (cells s))) (length (drop at (cells s))) ≡ true = some_fits (leb (frame_size (drop at (cells s))) (length (drop at (cells s)))) _ y j in
-    let f : frame_size (drop at (cells s)) ≤ length (drop at (cells s)) = leb-true _ _ e in
-    omega (arith, f, length-drop at (cells s), length_cells s)
+use Rattle.scan.specs.Heads.{ended}
 
 -- ---- a frame
-abbrev pub framed : Program → List Cell → ℕ → List Cell → ℕ → Option ℕ
-framed P S b X at = then_some (frame_fits P S b (drop at X)) (at + frame_size (drop at X))
+abbrev pub framed : Program → List Cell → ℕ → List Cell → Option ℕ
+framed P S b X = then_some (frame_fits P S b X) (frame_size X)
 
-module _ (P : Program) (S : List Cell) (b : ℕ) (s : List ℕ) (at : ℕ) {r : ℕ} (e : r ≡ room s) where
-  bad : frame_fits P S b (drop at (cells s)) ≡ false → None ≡ framed P S b (cells s) at
-  bad f = ap (λ (t : Bool). then_some t (at + frame_size (drop at (cells s)))) (sym f)
+module _ (P : Program) (S : List Cell) (b : ℕ) (s : List ℕ) {r : ℕ} (e : r ≡ room s) where
+  bad : frame_fits P S b (cells s) ≡ false → None ≡ framed P S b (cells s)
+  bad f = ap (λ (t : Bool). then_some t (frame_size (cells s))) (sym f)
 
-  length_is : length (drop at (cells s)) ≡ r - at
-  length_is = length-drop at (cells s) ∙ omega (arith, length_cells s)
+  length_is : length (cells s) ≡ r
+  length_is = length_cells s ∙ sym e
 
-  pub frame_short : r - at < 6 → None ≡ framed P S b (cells s) at
+  pub frame_short : r < 6 → None ≡ framed P S b (cells s)
   unfolding frame_fits head_fits both
   frame_short h = bad (simp (length_is, lt-leb _ _ h))
 
-  module _ (h : 6 ≤ r - at) {t : Bool} (f : t ≡ spare_fits (drop at (cells s))) where
-    pub frame_spare : not t ≡ true → None ≡ framed P S b (cells s) at
+  module _ (h : 6 ≤ r) {t : Bool} (f : t ≡ spare_fits (cells s)) where
+    pub frame_spare : not t ≡ true → None ≡ framed P S b (cells s)
     unfolding frame_fits head_fits both
     frame_spare g = bad (simp (length_is, le-leb _ _ h, sym f, not-true t g))
 
-    module _ (g : not t ≡ false) {d : Option ℕ} (k : d ≡ then_some (kind_fits P S b (drop at (cells s))) (limit_of P S b (drop at (cells s)))) where
-      pub frame_kind : d ≡ None → None ≡ framed P S b (cells s) at
+    module _ (g : not t ≡ false) {d : Option ℕ} (k : d ≡ then_some (kind_fits P S b (cells s)) (limit_of P S b (cells s))) where
+      pub frame_kind : d ≡ None → None ≡ framed P S b (cells s)
       unfolding frame_fits head_fits both
-      frame_kind m = bad (simp (length_is, le-leb _ _ h, sym f, not-false t g, none_fits (kind_fits P S b (drop at (cells s))) _ k m))
+      frame_kind m = bad (simp (length_is, le-leb _ _ h, sym f, not-false t g, none_fits (kind_fits P S b (cells s)) _ k m))
 
-      module _ {limit : ℕ} (m : d ≡ Some limit) {n : ℕ} (q : n ≡ (get_or (cells s) at null).payload) where
-        kind : kind_fits P S b (drop at (cells s)) ≡ true
-        kind = some_fits (kind_fits P S b (drop at (cells s))) _ k m
+      module _ {limit : ℕ} (m : d ≡ Some limit) {n : ℕ} (q : n ≡ (get_or (cells s) 0 null).payload) where
+        kind : kind_fits P S b (cells s) ≡ true
+        kind = some_fits (kind_fits P S b (cells s)) _ k m
 
-        pub frame_handlers : 16 < n → None ≡ framed P S b (cells s) at
+        pub frame_handlers : 16 < n → None ≡ framed P S b (cells s)
         unfolding frame_fits head_fits both
-        frame_handlers i = bad (simp (length_is, le-leb _ _ h, sym f, not-false t g, kind, handlers_is (cells s) at q, lt-leb _ _ i))
+        frame_handlers i = bad (simp (length_is, le-leb _ _ h, sym f, not-false t g, kind, sym q, lt-leb _ _ i))
 
-        module _ (i : n ≤ 16) {z : Option ℕ} (y : z ≡ ended (cells s) at) where
-          head : head_fits P S b (drop at (cells s)) ≡ true
+        module _ (i : n ≤ 16) {z : Option ℕ} (y : z ≡ ended (cells s)) where
+          head : head_fits P S b (cells s) ≡ true
           unfolding head_fits both
-          head = simp (length_is, le-leb _ _ h, sym f, not-false t g, kind, handlers_is (cells s) at q, le-leb _ _ i)
+          head = simp (length_is, le-leb _ _ h, sym f, not-false t g, kind, sym q, le-leb _ _ i)
 
-          pub frame_long : z ≡ None → None ≡ framed P S b (cells s) at
+          pub frame_long : z ≡ None → None ≡ framed P S b (cells s)
           unfolding frame_fits both
-          frame_long j = bad (simp (head, none_fits (leb (frame_size (drop at (cells s))) (length (drop at (cells s)))) _ y j))
+          frame_long j = bad (simp (head, none_fits (leb (frame_size (cells s)) (length (cells s))) _ y j))
 
           module _ {end : ℕ} (j : z ≡ Some end) where
-            long : leb (frame_size (drop at (cells s))) (length (drop at (cells s))) ≡ true
-            long = some_fits (leb (frame_size (drop at (cells s))) (length (drop at (cells s)))) _ y j
+            long : leb (frame_size (cells s)) (length (cells s)) ≡ true
+            long = some_fits (leb (frame_size (cells s)) (length (cells s))) _ y j
 
-            ends : end ≡ at + frame_size (drop at (cells s))
-            ends = some_is (leb (frame_size (drop at (cells s))) (length (drop at (cells s)))) _ y j
+            ends : end ≡ frame_size (cells s)
+            ends = some_is (leb (frame_size (cells s)) (length (cells s))) _ y j
 
-            module _ {u : Bool} (v : limit ≡ limit_of P S b (drop at (cells s)) → u ≡ body_fits P S b (drop at (cells s))) where
-              body : u ≡ body_fits P S b (drop at (cells s))
-              body = v (some_is (kind_fits P S b (drop at (cells s))) _ k m)
+            module _ {u : Bool} (v : limit ≡ limit_of P S b (cells s) → u ≡ body_fits P S b (cells s)) where
+              body : u ≡ body_fits P S b (cells s)
+              body = v (some_is (kind_fits P S b (cells s)) _ k m)
 
-              pub frame_body : {r : Option ℕ} → r ≡ then_some u end → r ≡ framed P S b (cells s) at
+              pub frame_body : {r : Option ℕ} → r ≡ then_some u end → r ≡ framed P S b (cells s)
               unfolding frame_fits both
-              frame_body o = simp (head, long) (o ∙ ap (λ (t : Bool). then_some t end) body ∙ ap (then_some (body_fits P S b (drop at (cells s)))) ends)
+              frame_body o = simp (head, long) (o ∙ ap (λ (t : Bool). then_some t end) body ∙ ap (then_some (body_fits P S b (cells s))) ends)
+
+pub ended_inside : (s : List ℕ) {z : Option ℕ} {end : ℕ} → z ≡ ended (cells s) → z ≡ Some end → frame_size (cells s) ≤ room s
+ended_inside s {z} {end} y j =
+    let e : leb (frame_size (cells s)) (length (cells s)) ≡ true = some_fits (leb (frame_size (cells s)) (length (cells s))) _ y j in
+    let f : frame_size (cells s) ≤ length (cells s) = leb-true _ _ e in
+    omega (arith, f, length_cells s)
+
+-- the cells that the code lends as `s[16 * at..]`
+pub lent_end : (s : List ℕ) (at : ℕ) → at ≤ room s → cells (take (length s - 16 * at) (drop (16 * at) s)) ≡ drop at (cells s)
+lent_end s at h = ap cells (part_end s (16 * at)) ∙ cells_end s at h
 
 -- ---- frames from the first cell of s on: i are passed, and end at `at`
 pub record Frames (P : Program) (S : List Cell) (b : ℕ) (s : List ℕ) (n at i : ℕ) : Type 0 where
@@ -106,7 +98,7 @@ pub frames_none : (P : Program) (S : List Cell) (b : ℕ) (s : List ℕ) (n : �
 frames_none P S b s n = let a : n - 0 ≡ n = omega arith in record { less = omega arith; inside = omega arith; fit = rw a; size = rw a (omega arith) }
 
 module _ {P : Program} {S : List Cell} {b : ℕ} {s : List ℕ} {n at i : ℕ} (w : Frames P S b s n at i) where
-  module _ (lt : i < n) {z : Option ℕ} (y : z ≡ framed P S b (cells s) at) where
+  module _ (lt : i < n) {z : Option ℕ} (y : z ≡ framed P S b (drop at (cells s))) where
     step : n - i ≡ suc (n - (i + 1))
     step = omega arith
 
@@ -116,7 +108,7 @@ module _ {P : Program} {S : List Cell} {b : ℕ} {s : List ℕ} {n at i : ℕ} (
         let f : frames_fit P S b (n - i) (drop at (cells s)) ≡ false = rw (step, none_fits (frame_fits P S b (drop at (cells s))) _ y j) in
         ap (λ (t : Bool). then_some t (frames_size n (cells s))) (sym (w.fit ∙ f))
 
-    module _ {end : ℕ} (j : z ≡ Some end) where
+    module _ {size : ℕ} (j : z ≡ Some size) where
       fits : frame_fits P S b (drop at (cells s)) ≡ true
       fits = some_fits (frame_fits P S b (drop at (cells s))) _ y j
 
@@ -124,20 +116,25 @@ module _ {P : Program} {S : List Cell} {b : ℕ} {s : List ℕ} {n at i : ℕ} (
       unfolding frame_fits
       room_for = leb-true _ _ (first _ _ (second _ _ fits))
 
-      end_is : end ≡ at + frame_size (drop at (cells s))
-      end_is = some_is (frame_fits P S b (drop at (cells s))) _ y j
+      size_is : size ≡ frame_size (drop at (cells s))
+      size_is = some_is (frame_fits P S b (drop at (cells s))) _ y j
 
-      rest : drop (frame_size (drop at (cells s))) (drop at (cells s)) ≡ drop end (cells s)
-      rest = drop-drop (frame_size (drop at (cells s))) at (cells s) ∙ ap (λ (k : ℕ). drop k (cells s)) (sym end_is)
+      rest : drop (frame_size (drop at (cells s))) (drop at (cells s)) ≡ drop (at + size) (cells s)
+      rest = drop-drop (frame_size (drop at (cells s))) at (cells s) ∙ ap (λ (k : ℕ). drop (at + k) (cells s)) (sym size_is)
 
-      pub frames_more : Frames P S b s n end (i + 1)
+      pub frame_inside : at + size ≤ room s
+      frame_inside =
+          let e = size_is in
+          let l : length (drop at (cells s)) ≡ room s - at = length-drop at (cells s) ∙ ap (λ (k : ℕ). k - at) (length_cells s) in
+          omega (arith, room_for, w.inside)
+
+      pub frames_more : Frames P S b s n (at + size) (i + 1)
       unfolding frames_fit frames_size both
       frames_more =
-          let e = end_is in
-          let l : length (drop at (cells s)) ≡ room s - at = length-drop at (cells s) ∙ ap (λ (k : ℕ). k - at) (length_cells s) in
+          let e = size_is in
           record {
             less = omega arith;
-            inside = omega (arith, room_for, w.inside);
+            inside = frame_inside;
             fit = w.fit ∙ rw (step, fits, rest);
             size = w.size ∙ rw (step, rest) (omega arith);
           }

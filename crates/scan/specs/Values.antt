@@ -1,4 +1,4 @@
--- A value in form: what `object_of`, `is_constant`, `is_declared` and `is_plain` say.
+-- A value in form: what `is_constant`, `is_declared` and `is_plain` say.
 use Rattle.std.specs.Prelude.{◌≡◌, List, [], Bool, false, not, ℕ, ◌<◌, ◌≤◌, get_or}
 use Rattle.std.proofs.Math.Path.{sym, ap}
 use Rattle.std.proofs.Common.{◌∙◌, arith}
@@ -14,12 +14,13 @@ use Rattle.image.specs.Records.{if?, both}
 use Rattle.image.specs.Program.{Code, no_code, part}
 use Rattle.image.specs.Fine.{no_constant}
 use Rattle.image.specs.Layout.{field, code_at}
-use Rattle.image.proofs.Parts.{clash, first, length_tab, tab_at}
+use Rattle.std.proofs.lemmas.Bool.{false≢true}
+use Rattle.image.proofs.Parts.{first, length_tab, tab_at}
 use Rattle.image.specs.declared.Constant.{Constant}
 use Rattle.program.specs.Parts.{tab_past}
 use Rattle.machine.specs.Values.{Program, code_of, bytes_at}
 use Rattle.machine.specs.Calls.{is_constant}
-use Rattle.memory.specs.Tests.{object_of, is_null_cell, value_fits}
+use Rattle.memory.specs.Tests.{is_null_cell, value_fits}
 use Rattle.scan.specs.Tables.{program_in}
 
 -- ---- a test and what it leaves to be tested
@@ -30,11 +31,6 @@ both_not b e f = sym (ap (λ (x : Bool). both x b) (sym e ∙ not-true _ f))
 pub both_then : {a t r : Bool} (b : Bool) → t ≡ a → not t ≡ false → r ≡ b → r ≡ both a b
 unfolding both
 both_then b e f w = w ∙ sym (ap (λ (x : Bool). both x b) (sym e ∙ not-false _ f))
-
--- ---- an object at a handle
-pub object_below : (S : List Cell) (b kind h : ℕ) {t : Bool} {r : ℕ} → t ≡ object_of S b kind h → not t ≡ false → b ≤ r → h < r
-unfolding object_of
-object_below S b kind h {t} e f l = omega (arith, ltb-true h b (first _ _ (sym e ∙ not-false t f)))
 
 -- ---- a constant
 named : Code → ℕ → Cell → Bool
@@ -84,7 +80,7 @@ module _ (image rows constants inner : List ℕ) (codes : ℕ) where
         where
           by : Dec (v.number < codes) → v.number < codes
           by (yes h) = h
-          by (no h) = absurd (clash (constant_past (omega arith) ∙ holds))
+          by (no h) = absurd (false≢true (constant_past (omega arith) ∙ holds))
 
       pub constant_fits : v.payload < field rows v.number 7
       unfolding named

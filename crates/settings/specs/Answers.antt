@@ -1,5 +1,5 @@
 -- What a set writes is what the machine's definitions say of the world that memory holds.
-use Rattle.std.specs.Prelude.{◌≡◌, refl, Bool, true, false, ℕ, ◌+◌, ◌<◌, ltb}
+use Rattle.std.specs.Prelude.{◌≡◌, ℕ, ◌+◌, ◌<◌, ltb}
 use Rattle.std.proofs.Math.Path.{ap}
 use Rattle.std.proofs.Common.{◌∙◌, ltb-true}
 use mathlib.Core.List.{List, ◌++◌}
@@ -9,7 +9,7 @@ use Rattle.std.proofs.lemmas.List.{set-append_left}
 use Rattle.cells.specs.Cells.{cells}
 use Rattle.cells.specs.declared.Cell.{Cell}
 use Rattle.image.specs.Records.{both, Answer}
-use Rattle.image.proofs.Parts.{first}
+use Rattle.image.proofs.Parts.{first, both_swap}
 use Rattle.machine.specs.Machine.{M}
 use Rattle.machine.specs.Opcodes.{Action, sets, sets_builtin, doing}
 use Rattle.machine.specs.Calls.{is_value, Request, set_global, set_builtin, request_world}
@@ -56,13 +56,6 @@ module _ {e : Entered} {state live store : List ℕ} (r : Ready e state live sto
         free_store = r.holds.free_store;
         store = r.holds.store;
       }
-
-both_swap : (a b : Bool) → both a b ≡ both b a
-unfolding both
-both_swap true true = refl
-both_swap true false = refl
-both_swap false true = refl
-both_swap false false = refl
 
 -- ---- The contracts
 module _ (image state live store : List ℕ) (r : ℕ) (state' : List ℕ) where

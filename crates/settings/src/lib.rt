@@ -26,7 +26,7 @@ fn set_value(
     ensures { Setting first number v state.old store.now (entry image.now state.old live.now store.now) (number_of result) state.new }
 {
     asks::entered_with(image, state, live, store, v)?;
-    if number > 255 {
+    if number >= asks::NAMES {
         return Err(Refusal::BadValue);
     }
     cells::put(state, first + number as usize, v);

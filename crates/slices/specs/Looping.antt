@@ -1,5 +1,5 @@
 -- The loop of a slice: its invariant, what the calls in it require, and one law for each way out.
-use Rattle.std.specs.Prelude.{◌≡◌, refl, List, ℕ, ◌+◌, ◌-◌, ◌*◌, ◌<◌, ◌≤◌, length, get_or}
+use Rattle.std.specs.Prelude.{◌≡◌, refl, List, ℕ, ◌+◌, ◌-◌, ◌*◌, ◌<◌, ◌≤◌, length, get_or, Result, Ok, Err}
 use Rattle.std.proofs.Common.{sym, subst, ◌∙◌, arith}
 use Rattle.std.proofs.Math.Path.{ap}
 use Rattle.cells.specs.Cells.{cells}
@@ -9,15 +9,17 @@ use Rattle.image.proofs.Parts.{length_tab}
 use Rattle.image.specs.Layout.{field, opcode_at, code_at}
 use Rattle.image.specs.Fine.{Accepted}
 use Rattle.image.specs.declared.Op.{Op}
-use Rattle.program.specs.Parts.{Entry}
-use Rattle.program.specs.Looks.{body_at, look_opcode}
+use Rattle.image.specs.declared.Row.{Row}
+use Rattle.program.specs.Looks.{RowOf, body_at, look_opcode}
 use Rattle.scan.specs.Tables.{program_in}
 use Rattle.scan.specs.Values.{code_in}
 use Rattle.machine.specs.Values.{Program, code_of}
 use Rattle.machine.specs.Machine.{M}
 use Rattle.machine.specs.Calls.{Sizes}
+use Rattle.machine.proofs.Store.{same_code}
 use Rattle.moves.specs.declared.Running as registers
 use Rattle.plan.specs.Rest.{Same, Appends}
+use Rattle.plan.proofs.RestLaws.{same_refl, same_join}
 use Rattle.plan.proofs.Appended.{appends_refl, appends_two}
 use Rattle.plan.specs.declared.Error.{Error}
 use Rattle.steps.specs.declared.After.{After}
@@ -27,15 +29,11 @@ use Rattle.steps.specs.declared.Quick.{Quick}
 use Rattle.steps.specs.declared.Quick.TheVariants.{Goes, Jumps, Other}
 use Rattle.steps.specs.Quickly.{Quickly, goes_steps, jumps_steps, other_same}
 use Rattle.steps.specs.Stepped.{Given, ReadyWith, Stepped, used_after, Steps}
-use Rattle.steps.specs.SteppedLaws.{same_code, same_refl}
 use Rattle.slices.specs.Sliced.{past_of, At, Sliceable, Reached, Ended, Slices, Quickens}
 use Rattle.slices.specs.SlicedLaws.{slice_of, past_frame, at_given, reached_first, reached_end, reached_more, reached_on, reached_jump, reached_spent}
 use Rattle.slices.specs.declared.End.TheVariants.{Paused, Spent, Refused, Throws, Closes}
 use Rattle.slices.specs.declared.Slice.{Slice}
 use Rattle.refusals.specs.declared.Refusal.{Refusal}
-
-same_on : {a b c : List ℕ} → Same a b → Same b c → Same a c
-same_on s t = record { rest = t.rest ∙ s.rest; len = t.len ∙ s.len }
 
 -- ---- The next opcode, by the tables
 module _ (image rows constants inner : List ℕ) (codes : ℕ) {z : Sizes} {m : M} {g : registers.Running} {handle code u : ℕ} {B L S : List Cell} (x : At (program_in image rows constants inner codes) z m g handle code u B L S) where
@@ -109,8 +107,8 @@ module _ {image rows constants inner : List ℕ} {codes : ℕ} {first : register
   opcode_there = (code_low some_sliceable, at_field image rows constants inner codes some_reached.at)
 
   -- the next opcode, by the place where the opcodes of the code begin
-  pub opcode_from : {at : ℕ} {o : Op} → Entry rows (10 * code) at → o ≡ opcode_at image (at + 14) g.place → o ≡ get_or (body_at image rows code).opcodes g.place no_op
-  opcode_from = look_opcode image rows code g.place opcode_there.1
+  pub opcode_from : {r : Row} {o : Op} → RowOf rows code r → o ≡ opcode_at image (r.place + 14) g.place → o ≡ get_or (body_at image rows code).opcodes g.place no_op
+  opcode_from r = look_opcode image rows code r g.place opcode_there.1
 
   pub place_low : g.place < 4294967296
   place_low =
@@ -135,7 +133,7 @@ module _ {image rows constants inner : List ℕ} {codes : ℕ} {first : register
         )
 
     -- ---- what a step leaves
-    module _ (some : 0 < ticks) {n : After} {state'' live'' store'' : List ℕ} (s : Steps (program_in image rows constants inner codes) h handle code u o n state' live' store' state'' live'' store'') where
+    module _ (some : 0 < ticks) {n : Result After Refusal} {state'' live'' store'' : List ℕ} (s : Steps (program_in image rows constants inner codes) h handle code u o n state' live' store' state'' live'' store'') where
       -- of the machine that the run has come to
       left_by_lem : {z : Sizes} {m : M} (x : Reached (program_in image rows constants inner codes) z given begun m handle code (slice_of Paused g u left ticks) (cells state') (cells live') (cells store'))
           → Accepted image (program_in image rows constants inner codes).codes → z.live ≤ 4096
@@ -154,8 +152,8 @@ module _ {image rows constants inner : List ℕ} {codes : ℕ} {first : register
         began = i.began;
         reached = f;
         lower = l;
-        same_state = same_on i.same_state s.same_state;
-        same_live = same_on i.same_live s.same_live;
+        same_state = same_join i.same_state s.same_state;
+        same_live = same_join i.same_live s.same_live;
         appends = appends_by q;
       }
 
@@ -166,22 +164,22 @@ module _ {image rows constants inner : List ℕ} {codes : ℕ} {first : register
       ends r' w l q f = rw w (record {
         ends = f;
         lower = l;
-        same_state = same_on i.same_state s.same_state;
-        same_live = same_on i.same_live s.same_live;
+        same_state = same_join i.same_state s.same_state;
+        same_live = same_join i.same_live s.same_live;
         appends = appends_by q;
       })
 
-      module _ {g' : registers.Running} {u' : ℕ} (q : n ≡ after.On g' u') where
+      module _ {g' : registers.Running} {u' : ℕ} (q : n ≡ Ok (after.On g' u')) where
         pub loops_on : (left ≡ 0 → ⊥) → Looping image rows constants inner codes first handle code taken begun given state live store g' u' (left - 1) (ticks - 1) state'' live'' store''
         loops_on ne = loops (omega (arith, i.lower)) (ap (used_after u) q) (λ z m x a l. let y = i.reached z m x a l in reached_on y some Paused (rw q at (left_by_lem y a l)) (omega arith))
 
         pub ends_spent : {r : Slice} → left ≡ 0 → r ≡ slice_of Spent g' u' left (ticks - 1) → Slices (program_in image rows constants inner codes) first handle code taken begun given r state live store state'' live'' store''
         ends_spent none w = ends (slice_of Spent g' u' left (ticks - 1)) w i.lower (ap (used_after u) q) (λ z m x a l. let y = i.reached z m x a l in reached_spent y some Spent left (rw q at (left_by_lem y a l)) none)
 
-      pub loops_jumped : {g' : registers.Running} → n ≡ after.Jumped g' → Looping image rows constants inner codes first handle code taken begun given state live store g' u left (ticks - 1) state'' live'' store''
+      pub loops_jumped : {g' : registers.Running} → n ≡ Ok (after.Jumped g') → Looping image rows constants inner codes first handle code taken begun given state live store g' u left (ticks - 1) state'' live'' store''
       loops_jumped q = loops i.lower (ap (used_after u) q) (λ z m x a l. let y = i.reached z m x a l in reached_jump y some Paused (rw q at (left_by_lem y a l)))
 
-      pub ends_throws : {g' : registers.Running} {x : Error} {r : Slice} → n ≡ after.Throws g' x → r ≡ slice_of (Throws g' x) g u left ticks → Slices (program_in image rows constants inner codes) first handle code taken begun given r state live store state'' live'' store''
+      pub ends_throws : {g' : registers.Running} {x : Error} {r : Slice} → n ≡ Ok (after.Throws g' x) → r ≡ slice_of (Throws g' x) g u left ticks → Slices (program_in image rows constants inner codes) first handle code taken begun given r state live store state'' live'' store''
       unfolding reached_end
       ends_throws {g'} {x} q w =
           ends (slice_of (Throws g' x) g u left ticks) w i.lower (ap (used_after u) q)
@@ -192,7 +190,7 @@ module _ {image rows constants inner : List ℕ} {codes : ℕ} {first : register
           rw (d.1.state_is, d.1.live_is, d.1.store_is)
           (reached_end (Throws g' x) y, some, record { error = t.error; place = t.place; locals = t.locals; stack = t.stack; handlers = t.handlers; is = t.is; throws = t.throws; runs = t.runs }))
 
-      pub ends_refused : {k : Refusal} {r : Slice} → n ≡ after.Stops k → r ≡ slice_of (Refused k) g u left ticks → Slices (program_in image rows constants inner codes) first handle code taken begun given r state live store state'' live'' store''
+      pub ends_refused : {k : Refusal} {r : Slice} → n ≡ Err k → r ≡ slice_of (Refused k) g u left ticks → Slices (program_in image rows constants inner codes) first handle code taken begun given r state live store state'' live'' store''
       unfolding reached_end
       ends_refused {k} q w =
           ends (slice_of (Refused k) g u left ticks) w i.lower (ap (used_after u) q)
@@ -201,7 +199,7 @@ module _ {image rows constants inner : List ℕ} {codes : ℕ} {first : register
           let d = rw q at (left_by_lem y a l) in
           rw (d.1.state_is, d.1.live_is, d.1.store_is) (reached_end (Refused k) y, some, d.0))
 
-      pub ends_closes : {k : Closing} {r : Slice} → n ≡ after.Closing k → r ≡ slice_of (Closes k o.operand) g u left ticks → Slices (program_in image rows constants inner codes) first handle code taken begun given r state live store state'' live'' store''
+      pub ends_closes : {k : Closing} {r : Slice} → n ≡ Ok (after.Closing k) → r ≡ slice_of (Closes k o.operand) g u left ticks → Slices (program_in image rows constants inner codes) first handle code taken begun given r state live store state'' live'' store''
       unfolding reached_end
       ends_closes {k} q w =
           ends (slice_of (Closes k o.operand) g u left ticks) w i.lower (ap (used_after u) q)
@@ -231,7 +229,7 @@ module _ {image rows constants inner : List ℕ} {codes : ℕ} {first : register
       reached = λ z m x a l. let y = i.reached z m x a l in reached_more Paused y (k.reached z y.machine y.at a l) k.uses;
       lower = omega (arith, i.lower, k.lower);
       same_state = i.same_state;
-      same_live = same_on i.same_live k.same_live;
+      same_live = same_join i.same_live k.same_live;
       appends = i.appends;
     }
 

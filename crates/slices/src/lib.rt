@@ -8,7 +8,7 @@ ghost use Rattle.slices.specs.Sliced.{past_of, Sliceable, Slices, Quickens};
 use moves::Running;
 use plan::Error;
 use refusals::Refusal;
-use steps::{After, Closing, Quick};
+use steps::{After, Closing, Closure, Quick};
 
 // How a slice ends: no tick is left; all of it is spent; its next opcode is refused, throws its own error over the frame left, or closes it.
 #[derive(Clone, Copy)]
@@ -60,17 +60,16 @@ fn run_quick(
     live: &mut [u8],
     store: &[u8],
     first: Running,
-    handle: usize,
-    code: usize,
+    closure: Closure,
     used: usize,
     begun: u32,
     given: u32,
 ) -> Slice
-    requires { Sliceable (program_of program.now) first handle code used state.now live.old store.now }
-    ensures { Quickens (program_of program.now) first handle code used begun given result state.now live.old store.now live.new }
+    requires { Sliceable (program_of program.now) first closure.handle closure.code used state.now live.old store.now }
+    ensures { Quickens (program_of program.now) first closure.handle closure.code used begun given result state.now live.old store.now live.new }
 {
     let image = program.image;
-    let start = program::entry(program.rows, 10 * code) + 14;
+    let start = program::row(program.rows, closure.code).place as usize + 14;
     let mut g = first;
     let mut left = begun;
     let mut ticks = given;
@@ -79,7 +78,7 @@ fn run_quick(
             return sliced(End::Paused, g, used, left, ticks);
         }
         let o = program::opcode_at(image, start, g.place);
-        match steps::quick_step(program, live, store, past(g), handle, code, used, o) {
+        match steps::quick_step(program, live, store, past(g), closure, used, o) {
             Quick::Goes(h) => {
                 g = h;
                 ticks -= 1;
@@ -102,32 +101,29 @@ pub fn run_slice(
     live: &mut [u8],
     store: &mut [u8],
     first: Running,
-    handle: usize,
-    code: usize,
+    closure: Closure,
     taken: usize,
     begun: u32,
     given: u32,
 ) -> Slice
-    requires { Sliceable (program_of program.now) first handle code taken state.old live.old store.old }
-    ensures { Slices (program_of program.now) first handle code taken begun given result state.old live.old store.old state.new live.new store.new }
+    requires { Sliceable (program_of program.now) first closure.handle closure.code taken state.old live.old store.old }
+    ensures { Slices (program_of program.now) first closure.handle closure.code taken begun given result state.old live.old store.old state.new live.new store.new }
 {
     let mut g = first;
     let mut used = taken;
     let mut left = begun;
     let mut ticks = given;
     while ticks > 0 {
-        let q = run_quick(
-            program, state, live, store, g, handle, code, used, left, ticks,
-        );
+        let q = run_quick(program, state, live, store, g, closure, used, left, ticks);
         g = q.g;
         left = q.left;
         ticks = q.ticks;
         if ticks == 0 {
             return sliced(End::Paused, g, used, left, ticks);
         }
-        let o = program.opcode(code, g.place);
-        match steps::step(program, state, live, store, past(g), handle, code, used, o) {
-            After::On(h, u) => {
+        let o = program.opcode(closure.code, g.place);
+        match steps::step(program, state, live, store, past(g), closure, used, o) {
+            Ok(After::On(h, u)) => {
                 g = h;
                 used = u;
                 ticks -= 1;
@@ -136,13 +132,13 @@ pub fn run_slice(
                 }
                 left -= 1;
             }
-            After::Jumped(h) => {
+            Ok(After::Jumped(h)) => {
                 g = h;
                 ticks -= 1;
             }
-            After::Throws(h, x) => return sliced(End::Throws(h, x), g, used, left, ticks),
-            After::Stops(n) => return sliced(End::Refused(n), g, used, left, ticks),
-            After::Closing(k) => return sliced(End::Closes(k, o.operand), g, used, left, ticks),
+            Ok(After::Throws(h, x)) => return sliced(End::Throws(h, x), g, used, left, ticks),
+            Err(n) => return sliced(End::Refused(n), g, used, left, ticks),
+            Ok(After::Closing(k)) => return sliced(End::Closes(k, o.operand), g, used, left, ticks),
         }
     }
     sliced(End::Paused, g, used, left, ticks)

@@ -1,14 +1,17 @@
 // The moves on the state block: each is said of any world that the block holds.
 #![tactic(auto)]
 
-ghost use Rattle.std.specs.Prelude.{◌≡◌, ◌+◌, ◌≤◌, ◌<◌, length, get_or, set};
+ghost use Rattle.std.specs.Prelude.{◌≡◌, ◌+◌, ◌≤◌, ◌<◌, length, get_or, set, not, eqb};
 ghost use Rattle.cells.specs.Cells.{null, cells, Sound, Writes};
 ghost use Rattle.machine.specs.Machine.{used};
 ghost use Rattle.machine.specs.Calls.{World};
-ghost use Rattle.memory.specs.Layout.{bit, result_shown, state_cells};
+ghost use Rattle.memory.specs.Layout.{result_shown, state_cells};
 ghost use Rattle.states.specs.Worlds.{Counted, Turned, Resulted, GlobalSet, BuiltinSet, Changes};
 
 use cells::Cell;
+
+// The mark of a loaded state block, the tag of its first cell.
+const LOADED: u32 = 1;
 
 // How many frames the live stack holds.
 pub fn frames(state: &[u8]) -> u32
@@ -34,12 +37,12 @@ pub fn slice(state: &[u8]) -> u32
     cells::tag(state, 1)
 }
 
-// 1 in a wait for the host, else 0.
-pub fn waits(state: &[u8]) -> u32
+// Does it wait for the host?
+pub fn waits(state: &[u8]) -> bool
     requires { length state.now ≡ 8256 }
-    ensures { (w : World) → cells state.now ≡ state_cells w → result ≡ bit w.wait }
+    ensures { (w : World) → cells state.now ≡ state_cells w → result ≡ w.wait }
 {
-    cells::number(state, 1)
+    cells::number(state, 1) == 1
 }
 
 // The kind of the result, 0 if there is none.
@@ -48,6 +51,14 @@ pub fn result_kind(state: &[u8]) -> u64
     ensures { (w : World) → cells state.now ≡ state_cells w → result ≡ (result_shown w.machine.result).kind }
 {
     cells::payload(state, 1)
+}
+
+// Is there a result?
+pub fn has_result(state: &[u8]) -> bool
+    requires { length state.now ≡ 8256 }
+    ensures { (w : World) → cells state.now ≡ state_cells w → result ≡ not (eqb (result_shown w.machine.result).kind 0) }
+{
+    result_kind(state) != 0
 }
 
 // The counts of frames and of used cells of the store.
@@ -59,7 +70,7 @@ pub fn set_counts(state: &mut [u8], frames: u32, used: u64)
         state,
         0,
         Cell {
-            tag: 1,
+            tag: LOADED,
             number: frames,
             payload: used,
         },
@@ -134,6 +145,7 @@ pub fn builtin(state: &[u8], number: usize) -> Cell
 }
 
 // A global becomes v.
+#[tactic(auto, using(crate::specs::Worlds::global_set))]
 pub fn set_global(state: &mut [u8], number: usize, v: Cell)
     requires { (length state.old ≡ 8256) × (number < 256) }
     ensures { Changes (GlobalSet number v) state.old state.new }
@@ -142,6 +154,7 @@ pub fn set_global(state: &mut [u8], number: usize, v: Cell)
 }
 
 // A builtin becomes v.
+#[tactic(auto, using(crate::specs::Worlds::builtin_set))]
 pub fn set_builtin(state: &mut [u8], number: usize, v: Cell)
     requires { (length state.old ≡ 8256) × (number < 256) }
     ensures { Changes (BuiltinSet number v) state.old state.new }

@@ -24,29 +24,40 @@ use Rattle.moves.specs.declared.Running as registers
 use Rattle.plan.specs.Rest.{Block}
 use Rattle.plan.proofs.Appended.{appends_refl}
 use Rattle.plan.specs.Inside.{DoesWhere, Does}
-use Rattle.plan.specs.declared.Error.{Error}
 use Rattle.plan.specs.declared.Next.{Next}
-use Rattle.plan.specs.declared.Next.TheVariants as next
 use Rattle.makes.specs.declared.Made.{Made}
 use Rattle.refusals.specs.declared.Refusal.{Refusal}
 use Rattle.makes.specs.Made as m
 use Rattle.makes.specs.Made.{Closable, MakesClosure, SetsGlobal}
+use Rattle.image.specs.Kinds.{opcode_number, opcode_of}
+use Rattle.image.specs.declared.kinds.Unknown.{Unknown}
+use Rattle.image.specs.declared.kinds.Opcode.{Opcode}
+use Rattle.image.proofs.KindLaws.{opcode_named, opcode_unnamed}
+use Rattle.steps.specs.Numbers.{left_out}
 use Rattle.steps.specs.Stepped.{Chosen, Ready, ReadyWith, Steps, StaysOn, after_next, after_made}
-use Rattle.steps.specs.SteppedLaws.{next_is, same_refl, stays_steps, does_stays, makes_steps, sets_steps}
+use Rattle.plan.proofs.RestLaws.{same_refl}
+use Rattle.steps.specs.SteppedLaws.{next_is, stays_steps, does_stays, makes_steps, sets_steps}
 use Rattle.steps.specs.Needed.{code_low, fits_in, local_in, upvalue_in, upvalue_there, global_within, name_is, name_low, constant_within, constant_is, constant_sized, inner_within, named_by}
 use Rattle.steps.specs.declared.Closing as c
 use Rattle.steps.specs.declared.Family.{Family}
-use Rattle.steps.specs.declared.Family.TheVariants.{Closes, LeftOut}
+use Rattle.steps.specs.declared.Family.TheVariants.{Closes}
 use Rattle.steps.specs.declared.After.{After}
-use Rattle.steps.specs.declared.After.TheVariants.{On, Jumped, Throws, Stops, Closing}
+use Rattle.steps.specs.declared.After.TheVariants.{Closing}
 use Rattle.refusals.specs.declared.Refusal.TheVariants.{ImageNumber}
 
 -- ---- The number of an opcode, by what was chosen
 pub numbered : {f : Family} (op : ℕ) (k : Family) → f ≡ k → Chosen f op → Chosen k op
 numbered op k e h = subst (λ (f : Family). Chosen f op) e h
 
+-- the same by the name that its number gives
+pub named_as : {r : Result Opcode Unknown} {n : ℕ} {o : Opcode} → r ≡ opcode_of n → r ≡ Ok o → n ≡ opcode_number o
+named_as {n = n} {o} q e = opcode_named n o (sym q ∙ e)
+
+pub chosen_as : (f : Family) (n : ℕ) {r : Result Opcode Unknown} {o : Opcode} → r ≡ opcode_of n → r ≡ Ok o → Chosen f (opcode_number o) → Chosen f n
+chosen_as f n q e h = subst (λ (i : ℕ). Chosen f i) (sym (named_as q e)) h
+
 -- what an opcode does, by its number
-pub does_as : {P : Program} {op k x : ℕ} {g : registers.Running} {n : Next} {old new : List ℕ} → op ≡ k → Does P k x g n old new → Does P op x g n old new
+pub does_as : {P : Program} {op k x : ℕ} {g : registers.Running} {n : Result Next Refusal} {old new : List ℕ} → op ≡ k → Does P k x g n old new → Does P op x g n old new
 does_as {P} {x = x} {g} {n} {old} {new} e d = subst (λ (i : ℕ). Does P i x g n old new) (sym e) d
 
 -- ---- What every family needs
@@ -84,7 +95,7 @@ module _ (image rows constants inner : List ℕ) (codes : ℕ) {g : registers.Ru
   global_named h q = name_low image rows constants inner codes y.given (global_kind h) q
 
 -- ---- Opcodes on the stack: what they leave
-module _ {P : Program} {g : registers.Running} {handle code : ℕ} {o : Op} {n : Next} {state live store : List ℕ} where
+module _ {P : Program} {g : registers.Running} {handle code : ℕ} {o : Op} {n : Result Next Refusal} {state live store : List ℕ} where
   pub pop_stays : o.number ≡ 0 → ((P : Program) (x : ℕ) (live : List ℕ) → Does P 0 x g n live live) → StaysOn P g handle code o n state live store live
   pop_stays e d = does_stays handle code state store (does_as e (d P o.operand live))
 
@@ -102,7 +113,7 @@ module _ {P : Program} {g : registers.Running} {handle code : ℕ} {o : Op} {n :
       same = (d P).same;
     }
 
-pub load_global_stays : (image rows constants inner : List ℕ) (codes : ℕ) {g : registers.Running} (handle : ℕ) {code : ℕ} {o : Op} {n : Next} {state live live' : List ℕ} (store : List ℕ) {name : ℕ} → o.number ≡ 4
+pub load_global_stays : (image rows constants inner : List ℕ) (codes : ℕ) {g : registers.Running} (handle : ℕ) {code : ℕ} {o : Op} {n : Result Next Refusal} {state live live' : List ℕ} (store : List ℕ) {name : ℕ} → o.number ≡ 4
     → name ≡ get_or (body_at image rows code).globals o.operand 0
     → ((P : Program) → DoesWhere (λ (m : M) (r : Running). Block m (cells state) × (name ≡ get_or r.code.globals o.operand 0)) P 4 o.operand g n live live')
     → StaysOn (program_in image rows constants inner codes) g handle code o n state live store live'
@@ -111,7 +122,7 @@ load_global_stays image rows constants inner codes handle store e q d =
     record { next = λ z m r y b. rw e (h.next z m r (cells store) (b, name_is image rows constants inner codes y q) y.inside); same = h.same }
 
 -- ---- Operators and jumps: one number, or a function that is told the number
-module _ {P : Program} {op x : ℕ} {g : registers.Running} {n : Next} {live : List ℕ} where
+module _ {P : Program} {op x : ℕ} {g : registers.Running} {n : Result Next Refusal} {live : List ℕ} where
   pub number_does : {i : ℕ} {live' : List ℕ} → op ≡ i → ((P : Program) → Does P i x g n live live') → Does P op x g n live live'
   number_does e d = does_as e (d P)
 
@@ -154,7 +165,7 @@ module _ (image rows constants inner : List ℕ) (codes : ℕ) {g : registers.Ru
         few = y.few;
       }
 
-module _ (image rows constants inner : List ℕ) (codes : ℕ) {g : registers.Running} {handle code u x : ℕ} {live store live' : List ℕ} {a : After} {c : Constant} (e : c ≡ get_or (code_at image rows constants [] code).constants x no_constant) where
+module _ (image rows constants inner : List ℕ) (codes : ℕ) {g : registers.Running} {handle code u x : ℕ} {live store live' : List ℕ} {a : Result After Refusal} {c : Constant} (e : c ≡ get_or (code_at image rows constants [] code).constants x no_constant) where
   pub closure_steps : {b : List ℕ} {j k : ℕ} {n : Result Made Refusal} {store' : List ℕ} → c.kind ≡ 22 → b ≡ bytes_of image c → j ≡ le_at 2 b 0 → k ≡ get_or (code_at [] rows [] inner code).codes j 0
       → MakesClosure (program_in image rows constants inner codes) g handle u x k n live store live' store' → a ≡ after_made n
       → (state : List ℕ) → Steps (program_in image rows constants inner codes) g handle code u (load_const x) a state live store state live' store'
@@ -162,7 +173,7 @@ module _ (image rows constants inner : List ℕ) (codes : ℕ) {g : registers.Ru
   closure_steps {n = n} f q w v d r state =
       makes_steps n state u (λ z m s y t. d.next z m s y.inside y.accepted t y.closure (named_by image rows constants inner codes y refl e f q w v)) d.same_live d.appends r
 
-  pub const_steps : {n : Next} {number : ℕ} → (c.kind ≡ 22 → ⊥) → number ≡ code
+  pub const_steps : {n : Result Next Refusal} {number : ℕ} → (c.kind ≡ 22 → ⊥) → number ≡ code
       → ((cs : List Code) → DoesWhere (λ (m : M) (r : Running). (number ≡ r.number) × (c ≡ get_or r.code.constants x no_constant) × (c.kind ≡ 22 → ⊥)) (record { image = image; codes = cs }) 6 x g n live live')
       → a ≡ after_next n u → (state : List ℕ) → Steps (program_in image rows constants inner codes) g handle code u (load_const x) a state live store state live' store
   const_steps {n} f same d r state =
@@ -182,7 +193,7 @@ module _ {P : Program} {g : registers.Running} {handle code u : ℕ} {o : Op} {l
   pub list_asks : ReadyWith P g handle code u o live store → (end_of g ≤ room live) × (u ≤ room store) × (room store < 4294967296)
   list_asks y = let i = y.ready.given.inside in (ready_fits y.ready, omega (arith, y.uses, i.fits.used, i.room_store, length_cells store), y.few)
 
-  module _ {a : After} {state live' store' : List ℕ} where
+  module _ {a : Result After Refusal} {state live' store' : List ℕ} where
     pub const_made : o.number ≡ 6 → ((state : List ℕ) → Steps P g handle code u (load_const o.operand) a state live store state live' store')
         → Steps P g handle code u o a state live store state live' store'
     const_made e h = subst (λ (p : Op). Steps P g handle code u p a state live store state live' store') (sym (load_const_is o e)) (h state)
@@ -192,7 +203,7 @@ module _ {P : Program} {g : registers.Running} {handle code u : ℕ} {o : Op} {l
     list_made {n} e d r =
         makes_steps n state u (λ z m s y t. rw e ((d P).next z m s y.inside t)) (d P).same_live (d P).appends r
 
-pub global_made : (image rows constants inner : List ℕ) (codes : ℕ) {g : registers.Running} {handle code u : ℕ} {o : Op} {n : Next} {a : After} {state state' live store : List ℕ} {name : ℕ} → o.number ≡ 8
+pub global_made : (image rows constants inner : List ℕ) (codes : ℕ) {g : registers.Running} {handle code u : ℕ} {o : Op} {n : Result Next Refusal} {a : Result After Refusal} {state state' live store : List ℕ} {name : ℕ} → o.number ≡ 8
     → name ≡ get_or (body_at image rows code).globals o.operand 0 → ((P : Program) → SetsGlobal P g o.operand name n live state state') → a ≡ after_next n u
     → Steps (program_in image rows constants inner codes) g handle code u o a state live store state' live store
 global_made image rows constants inner codes {u = u} {n = n} {live = live} {store} e q d r =
@@ -202,7 +213,7 @@ global_made image rows constants inner codes {u = u} {n = n} {live = live} {stor
 -- ---- One opcode
 module _ {P : Program} {g : registers.Running} {handle code u : ℕ} {o : Op} {f : Family} {state live store : List ℕ} where
   -- the bytes are as they were
-  pub closes_steps : {k : c.Closing} → Chosen f o.number → f ≡ Closes k → Steps P g handle code u o (Closing k) state live store state live store
+  pub closes_steps : {k : c.Closing} → Chosen f o.number → f ≡ Closes k → Steps P g handle code u o (Ok (Closing k)) state live store state live store
   closes_steps {k} w e = record {
     next = λ z m r y b q. (numbered o.number (Closes k) e w, record { state_is = refl; live_is = refl; store_is = refl });
     same_state = same_refl state;
@@ -210,40 +221,20 @@ module _ {P : Program} {g : registers.Running} {handle code u : ℕ} {o : Op} {f
     appends = appends_refl u store;
   }
 
-  pub left_out_steps : Chosen f o.number → f ≡ LeftOut → Steps P g handle code u o (Stops ImageNumber) state live store state live store
+module _ {P : Program} {g : registers.Running} {handle code u : ℕ} {o : Op} {state live store : List ℕ} where
+  pub left_out_steps : {d : Result Opcode Unknown} {n : Unknown} → d ≡ opcode_of o.number → d ≡ Err n → Steps P g handle code u o (Err ImageNumber) state live store state live store
   unfolding outcome
-  left_out_steps w e = record {
+  left_out_steps {n = n} i e = record {
     next = λ z m r y b q.
-        (ap (λ (t : Taken). outcome P z t m) (next_is y ∙ numbered o.number LeftOut e w P m r o.operand), record { state_is = refl; live_is = refl; store_is = refl });
+        (ap (λ (t : Taken). outcome P z t m) (next_is y ∙ left_out o.number (opcode_unnamed o.number n (sym i ∙ e)) P m r o.operand), record { state_is = refl; live_is = refl; store_is = refl });
     same_state = same_refl state;
     same_live = same_refl live;
     appends = appends_refl u store;
   }
 
-module _ {P : Program} {g : registers.Running} {handle code u : ℕ} {o : Op} {n : Next} {a : After} {state live store live' : List ℕ} where
+module _ {P : Program} {g : registers.Running} {handle code u : ℕ} {o : Op} {n : Result Next Refusal} {a : Result After Refusal} {state live store live' : List ℕ} where
   pub stays_next : StaysOn P g handle code o n state live store live' → a ≡ after_next n u → Steps P g handle code u o a state live store state live' store
   stays_next s r = stays_steps state u s r
 
   pub does_next : Does P o.number o.operand g n live live' → a ≡ after_next n u → Steps P g handle code u o a state live store state live' store
   does_next d r = stays_steps state u (does_stays handle code state store d) r
-
--- ---- What a family leaves, as what a step ends in
-module _ {n : Next} (u : ℕ) where
-  pub next_goes : {g : registers.Running} → n ≡ next.Goes g → On g u ≡ after_next n u
-  next_goes e = rw e
-
-  pub next_jumps : {g : registers.Running} → n ≡ next.Jumps g → Jumped g ≡ after_next n u
-  next_jumps e = rw e
-
-  pub next_throws : {g : registers.Running} {x : Error} → n ≡ next.Throws g x → Throws g x ≡ after_next n u
-  next_throws e = rw e
-
-  pub next_stops : {k : Refusal} → n ≡ next.Stops k → Stops k ≡ after_next n u
-  next_stops e = rw e
-
-module _ {n : Result Made Refusal} where
-  pub made_on : {y : Made} → n ≡ Ok y → On y.g y.used ≡ after_made n
-  made_on e = rw e
-
-  pub made_refused : {k : Refusal} → n ≡ Err k → Stops k ≡ after_made n
-  made_refused e = rw e

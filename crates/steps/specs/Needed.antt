@@ -19,13 +19,14 @@ use Rattle.machine.specs.Machine.{M}
 use Rattle.machine.specs.Opcodes.{Running}
 use Rattle.machine.specs.Calls.{Sizes}
 use Rattle.machine.proofs.FormRules.{object_at_lem}
+use Rattle.machine.proofs.Store.{same_code}
 use Rattle.moves.specs.Runs.{end_of}
 use Rattle.moves.specs.Objects.{object_there, upvalue_fits}
 use Rattle.moves.specs.declared.Running as registers
 use Rattle.plan.proofs.InsideLaws.{runs_fits}
 use Rattle.makes.specs.Made.{Named}
 use Rattle.steps.specs.Stepped.{Given}
-use Rattle.steps.specs.SteppedLaws.{same_code, operand_in}
+use Rattle.steps.specs.SteppedLaws.{operand_in}
 
 -- ---- Of a machine that is given
 module _ {P : Program} {z : Sizes} {m : M} {r : Running} {g : registers.Running} {handle code : ℕ} {o : Op} {L S : List Cell} (y : Given P z m r g handle code o L S) where

@@ -1,59 +1,61 @@
--- Opcodes by number: no opcode does anything whose number is not chosen.
-use Rattle.std.specs.Prelude.{◌≡◌, refl, Bool, true, false, ◌⊎◌, ℕ, ◌<◌, ◌≤◌, leb}
+-- Opcodes by number: no opcode does anything whose number has no name.
+use Rattle.std.specs.Prelude.{◌≡◌, refl, Bool, false, ◌⊎◌, ℕ, ◌<◌, ◌≤◌, leb}
 use Rattle.std.proofs.Common.{ap, ◌∙◌, inl, inr, ⊎_elim, arith, ne_eqb}
+use Rattle.std.proofs.Math.Decide.{dec_le}
 use Rattle.std.proofs.lemmas.Bool.{lt-leb}
 use Rattle.image.specs.Records.{both}
-use Rattle.machine.specs.Opcodes.{between, opcode_action}
-use Rattle.steps.specs.Stepped.{Chosen}
-use Rattle.steps.specs.declared.Family.TheVariants.{LeftOut}
+use Rattle.image.specs.Kinds.{opcode_number}
+use Rattle.image.specs.declared.kinds.Opcode.{Opcode}
+use Rattle.image.specs.declared.kinds.Opcode.TheVariants as op
+use Rattle.image.proofs.Operands.{above}
+use Rattle.machine.specs.Values.{Program}
+use Rattle.machine.specs.Machine.{M}
+use Rattle.machine.specs.Opcodes.{Running, refuses, between, opcode_action}
+use Rattle.image.proofs.Parts.{both_false}
 
-abbrev pub Not : ℕ → ℕ → Type 0
-Not op n = op ≡ n → ⊥
-
--- the numbers that are chosen alone
-abbrev pub NoneOf : ℕ → Type 0
-NoneOf op =
-    (((((((((((((((((Unit {0} × Not op 0) × Not op 1) × Not op 2) × Not op 3) × Not op 4) × Not op 5) × Not op 6) × Not op 7) × Not op 8) × Not op 10) × Not op 30) × Not op 36) × Not op 37) × Not op 38)
-    × Not op 44) × Not op 49) × Not op 50) × Not op 51
-
-outside : (a b op : ℕ) → (op < a) ⊎ (b < op) → between a b op ≡ false
+outside : (a b n : ℕ) → (n < a) ⊎ (b < n) → between a b n ≡ false
 unfolding both
-outside a b op h = ⊎_elim (λ l. ap (λ (t : Bool). both t (leb op b)) (lt-leb a op l)) (λ l. ap (both (leb a op)) (lt-leb op b l) ∙ none (leb a op)) h
-  where
-    none : (t : Bool) → both t false ≡ false
-    none true = refl
-    none false = refl
+outside a b n h = ⊎_elim (λ l. ap (λ (t : Bool). both t (leb n b)) (lt-leb a n l)) (λ l. ap (both (leb a n)) (lt-leb n b l) ∙ both_false (leb a n)) h
 
--- neither alone nor in a range
-pub left_out : (op : ℕ) → NoneOf op → (op < 17) ⊎ (29 < op) → (op < 40) ⊎ (48 < op) → Chosen LeftOut op
+-- below the first of a range, or above its last
+apart : (a b n : ℕ) → (a ≤ n → b < n) → (n < a) ⊎ (b < n)
+apart a b n h = by (dec_le a n)
+  where
+    by : Dec (a ≤ n) → (n < a) ⊎ (b < n)
+    by (yes l) = inr (h l)
+    by (no l) = inl (omega arith)
+
+pub left_out : (n : ℕ) → ((o : Opcode) → n ≡ opcode_number o → ⊥) → (P : Program) (m : M) (r : Running) (x : ℕ) → opcode_action P m r n x ≡ refuses 3
 unfolding opcode_action
-left_out op n low high P m r x =
-    let far : (a b : ℕ) → 17 ≤ a → b ≤ 29 → (op < a) ⊎ (b < op) = λ a b h k. ⊎_elim (λ l. inl (omega arith)) (λ l. inr (omega arith)) low in
-    let apart : (k : ℕ) → 40 ≤ k → k ≤ 48 → op ≡ k → ⊥ = λ k h l e. ⊎_elim (λ q. omega arith) (λ q. omega arith) high in
+left_out n not P m r x =
+    let signs : 17 ≤ n → 18 < n = λ h. above 18 n (above 17 n h (not op.Neg)) (not op.Not) in
+    let halves : 19 ≤ n → 24 ≤ n = λ h. above 23 n (above 22 n (above 21 n (above 20 n (above 19 n h (not op.Add)) (not op.Sub)) (not op.Mul)) (not op.Div)) (not op.Rem) in
+    let pairs : 19 ≤ n → 29 < n = λ h. above 29 n (above 28 n (above 27 n (above 26 n (above 25 n (above 24 n (halves h) (not op.Eq)) (not op.Ne)) (not op.Gt)) (not op.Ge)) (not op.Lt)) (not op.Le) in
+    let jumps : 40 ≤ n → 43 < n = λ h. above 43 n (above 42 n (above 41 n (above 40 n h (not op.Jump)) (not op.JumpBackEdge)) (not op.Break)) (not op.Continue) in
     rw (
-      ne_eqb op 0 n.0.0.0.0.0.0.0.0.0.0.0.0.0.0.0.0.0.1,
-      ne_eqb op 1 n.0.0.0.0.0.0.0.0.0.0.0.0.0.0.0.0.1,
-      ne_eqb op 2 n.0.0.0.0.0.0.0.0.0.0.0.0.0.0.0.1,
-      ne_eqb op 3 n.0.0.0.0.0.0.0.0.0.0.0.0.0.0.1,
-      ne_eqb op 4 n.0.0.0.0.0.0.0.0.0.0.0.0.0.1,
-      ne_eqb op 5 n.0.0.0.0.0.0.0.0.0.0.0.0.1,
-      ne_eqb op 6 n.0.0.0.0.0.0.0.0.0.0.0.1,
-      ne_eqb op 7 n.0.0.0.0.0.0.0.0.0.0.1,
-      ne_eqb op 8 n.0.0.0.0.0.0.0.0.0.1,
-      ne_eqb op 10 n.0.0.0.0.0.0.0.0.1,
-      outside 17 18 op (far 17 18 (omega arith) (omega arith)),
-      outside 19 29 op (far 19 29 (omega arith) (omega arith)),
-      ne_eqb op 30 n.0.0.0.0.0.0.0.1,
-      ne_eqb op 36 n.0.0.0.0.0.0.1,
-      ne_eqb op 37 n.0.0.0.0.0.1,
-      ne_eqb op 38 n.0.0.0.0.1,
-      outside 40 43 op (⊎_elim (λ l. inl l) (λ l. inr (omega arith)) high),
-      ne_eqb op 44 n.0.0.0.1,
-      ne_eqb op 45 (apart 45 (omega arith) (omega arith)),
-      ne_eqb op 46 (apart 46 (omega arith) (omega arith)),
-      ne_eqb op 47 (apart 47 (omega arith) (omega arith)),
-      ne_eqb op 48 (apart 48 (omega arith) (omega arith)),
-      ne_eqb op 49 n.0.0.1,
-      ne_eqb op 50 n.0.1,
-      ne_eqb op 51 n.1,
+      ne_eqb n 0 (not op.Pop),
+      ne_eqb n 1 (not op.Copy),
+      ne_eqb n 2 (not op.Swap),
+      ne_eqb n 3 (not op.LoadLocal),
+      ne_eqb n 4 (not op.LoadGlobal),
+      ne_eqb n 5 (not op.LoadUpvalue),
+      ne_eqb n 6 (not op.LoadConst),
+      ne_eqb n 7 (not op.StoreLocal),
+      ne_eqb n 8 (not op.StoreGlobal),
+      ne_eqb n 10 (not op.BuildList),
+      outside 17 18 n (apart 17 18 n signs),
+      outside 19 29 n (apart 19 29 n pairs),
+      ne_eqb n 30 (not op.TypeCheck),
+      ne_eqb n 36 (not op.Call),
+      ne_eqb n 37 (not op.Return),
+      ne_eqb n 38 (not op.ReturnCall),
+      outside 40 43 n (apart 40 43 n jumps),
+      ne_eqb n 44 (not op.JumpPopIfNull),
+      ne_eqb n 45 (not op.PopJumpIfTrue),
+      ne_eqb n 46 (not op.PopJumpIfFalse),
+      ne_eqb n 47 (not op.JumpIfTrueOrPop),
+      ne_eqb n 48 (not op.JumpIfFalseOrPop),
+      ne_eqb n 49 (not op.RegisterHandler),
+      ne_eqb n 50 (not op.CheckEffect),
+      ne_eqb n 51 (not op.MarkAddStackSize),
     ) refl

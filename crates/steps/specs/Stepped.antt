@@ -8,7 +8,7 @@ use Rattle.image.specs.declared.Op.{Op}
 use Rattle.machine.specs.Values as v
 use Rattle.machine.specs.Values.{Program}
 use Rattle.machine.specs.Machine.{Frame, M, used}
-use Rattle.machine.specs.Opcodes.{Running, Action, throws, takes, refuses, opcode_action, next_action}
+use Rattle.machine.specs.Opcodes.{Running, Action, throws, takes, next_action}
 use Rattle.machine.specs.Calls.{Sizes, Outcome, does, stops, outcome, Pace, free, counted, pace_of}
 use Rattle.moves.specs.declared.Running as registers
 use Rattle.plan.specs.Rest.{Same, Appends, Block}
@@ -18,6 +18,7 @@ use Rattle.plan.specs.declared.Next.TheVariants as next
 use Rattle.makes.specs.declared.Made.{Made}
 use Rattle.refusals.specs.declared.Refusal.{Refusal}
 use Rattle.refusals.specs.Refusals.{number}
+use Rattle.operators.specs.Numbers.{unary_number, binary_number}
 use Rattle.steps.specs.declared.Stack.{Stack}
 use Rattle.steps.specs.declared.Stack.TheVariants.{Pop, Copy, Swap, LoadLocal, LoadGlobal, LoadUpvalue, StoreLocal}
 use Rattle.steps.specs.declared.Operator.{Operator}
@@ -29,9 +30,9 @@ use Rattle.steps.specs.declared.Making.TheVariants.{LoadConst, StoreGlobal, Buil
 use Rattle.steps.specs.declared.Closing as c
 use Rattle.steps.specs.declared.Closing.TheVariants.{Call, Return, ReturnCall}
 use Rattle.steps.specs.declared.Family.{Family}
-use Rattle.steps.specs.declared.Family.TheVariants.{OnStack, Computes, Moves, Makes, Closes, LeftOut}
+use Rattle.steps.specs.declared.Family.TheVariants.{OnStack, Computes, Moves, Makes, Closes}
 use Rattle.steps.specs.declared.After.{After}
-use Rattle.steps.specs.declared.After.TheVariants.{On, Jumped, Throws, Stops, Closing}
+use Rattle.steps.specs.declared.After.TheVariants.{On, Jumped, Throws, Closing}
 
 -- ---- What is chosen, by the number of an opcode
 abbrev pub StackNumber : Stack → ℕ → Type 0
@@ -44,8 +45,8 @@ StackNumber LoadUpvalue op = op ≡ 5
 StackNumber StoreLocal op = op ≡ 7
 
 abbrev pub OperatorNumber : Operator → ℕ → Type 0
-OperatorNumber Unary op = (17 ≤ op) × (op ≤ 18)
-OperatorNumber Binary op = (19 ≤ op) × (op ≤ 29)
+OperatorNumber (Unary k) op = op ≡ unary_number k
+OperatorNumber (Binary k) op = op ≡ binary_number k
 OperatorNumber TypeCheck op = op ≡ 30
 
 abbrev pub JumpNumber : Jump → ℕ → Type 0
@@ -73,7 +74,6 @@ Chosen (Computes k) op = OperatorNumber k op
 Chosen (Moves k) op = JumpNumber k op
 Chosen (Makes k) op = MakingNumber k op
 Chosen (Closes k) op = ClosingNumber k op
-Chosen LeftOut op = (P : Program) (m : M) (r : Running) (x : ℕ) → opcode_action P m r op x ≡ refuses 3
 
 -- ---- What is given: the machine m is about to take the opcode o of the running frame, whose registers are already past it
 pub record Given (P : Program) (z : Sizes) (m : M) (r : Running) (g : registers.Running) (handle code : ℕ) (o : Op) (L S : List Cell) : Type 0 where
@@ -120,42 +120,42 @@ pub record Untouched (state live store state' live' store' : List ℕ) : Type 0 
   pub live_is : live' ≡ live
   pub store_is : store' ≡ store
 
-abbrev pub Stepped : Program → Sizes → M → Running → ℕ → ℕ → ℕ → Op → After → List ℕ → List ℕ → List ℕ → List ℕ → List ℕ → List ℕ → Type 0
-Stepped P z m r handle code u o (On g w) state live store state' live' store' =
+abbrev pub Stepped : Program → Sizes → M → Running → ℕ → ℕ → ℕ → Op → Result After Refusal → List ℕ → List ℕ → List ℕ → List ℕ → List ℕ → List ℕ → Type 0
+Stepped P z m r handle code u o (Ok (On g w)) state live store state' live' store' =
     SteppedOn P z (outcome P z (next_action P m m.frames) m) counted r.below handle code g w (cells state') (cells live') (cells store')
-Stepped P z m r handle code u o (Jumped g) state live store state' live' store' =
+Stepped P z m r handle code u o (Ok (Jumped g)) state live store state' live' store' =
     SteppedOn P z (outcome P z (next_action P m m.frames) m) free r.below handle code g u (cells state') (cells live') (cells store')
-Stepped P z m r handle code u o (Throws g x) state live store state' live' store' =
+Stepped P z m r handle code u o (Ok (Throws g x)) state live store state' live' store' =
     Threw (λ (y : v.Error) (F : List Frame). next_action P m m.frames ≡ takes (throws y F)) r x g (cells live) × Untouched state live store state' live' store'
-Stepped P z m r handle code u o (Stops n) state live store state' live' store' =
+Stepped P z m r handle code u o (Err n) state live store state' live' store' =
     (outcome P z (next_action P m m.frames) m ≡ stops (number n)) × Untouched state live store state' live' store'
-Stepped P z m r handle code u o (Closing k) state live store state' live' store' = ClosingNumber k o.number × Untouched state live store state' live' store'
+Stepped P z m r handle code u o (Ok (Closing k)) state live store state' live' store' = ClosingNumber k o.number × Untouched state live store state' live' store'
 
 -- how many cells of the store are used then
-abbrev pub used_after : ℕ → After → ℕ
-used_after u (On g w) = w
-used_after u (Jumped g) = u
-used_after u (Throws g x) = u
-used_after u (Stops n) = u
-used_after u (Closing k) = u
+abbrev pub used_after : ℕ → Result After Refusal → ℕ
+used_after u (Ok (On g w)) = w
+used_after u (Ok (Jumped g)) = u
+used_after u (Ok (Throws g x)) = u
+used_after u (Err n) = u
+used_after u (Ok (Closing k)) = u
 
-pub record Steps (P : Program) (g : registers.Running) (handle code u : ℕ) (o : Op) (n : After) (state live store state' live' store' : List ℕ) : Type 0 where
+pub record Steps (P : Program) (g : registers.Running) (handle code u : ℕ) (o : Op) (n : Result After Refusal) (state live store state' live' store' : List ℕ) : Type 0 where
   pub next : (z : Sizes) (m : M) (r : Running) → Given P z m r g handle code o (cells live) (cells store) → Block m (cells state) → u ≡ used m.store → Stepped P z m r handle code u o n state live store state' live' store'
   pub same_state : Same state state'
   pub same_live : Same live live'
   pub appends : Appends u (used_after u n) store store'
 
 -- the same of an opcode that changes nothing but its frame
-pub record StaysOn (P : Program) (g : registers.Running) (handle code : ℕ) (o : Op) (n : Next) (state live store live' : List ℕ) : Type 0 where
+pub record StaysOn (P : Program) (g : registers.Running) (handle code : ℕ) (o : Op) (n : Result Next Refusal) (state live store live' : List ℕ) : Type 0 where
   pub next : (z : Sizes) (m : M) (r : Running) → Given P z m r g handle code o (cells live) (cells store) → Block m (cells state) → Nexts P z o.number o.operand m r n live live'
   pub same : Same live live'
 
-abbrev pub after_next : Next → ℕ → After
-after_next (next.Goes g) u = On g u
-after_next (next.Jumps g) u = Jumped g
-after_next (next.Throws g x) u = Throws g x
-after_next (next.Stops n) u = Stops n
+abbrev pub after_next : Result Next Refusal → ℕ → Result After Refusal
+after_next (Ok (next.Goes g)) u = Ok (On g u)
+after_next (Ok (next.Jumps g)) u = Ok (Jumped g)
+after_next (Ok (next.Throws g x)) u = Ok (Throws g x)
+after_next (Err n) u = Err n
 
-abbrev pub after_made : Result Made Refusal → After
-after_made (Ok y) = On y.g y.used
-after_made (Err n) = Stops n
+abbrev pub after_made : Result Made Refusal → Result After Refusal
+after_made (Ok y) = Ok (On y.g y.used)
+after_made (Err n) = Err n

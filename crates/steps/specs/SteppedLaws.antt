@@ -1,10 +1,10 @@
 -- What the families leave is what an opcode leaves: memory has the machine that the next step leads to.
-use Rattle.std.specs.Prelude.{◌≡◌, ℕ, ◌+◌, ◌/◌, ◌<◌, length, get_or, Result, Ok, Err}
+use Rattle.std.specs.Prelude.{◌≡◌, ℕ, ◌+◌, ◌<◌, length, get_or, Result, Ok, Err}
 use Rattle.std.proofs.Math.Path.{refl, ap}
 use Rattle.std.proofs.Common.{sym, ◌∙◌}
 use mathlib.Core.List.{List, [], ◌∷◌, ◌++◌, append-nil}
 use Rattle.cells.specs.Cells.{cells}
-use Rattle.cells.specs.CellsLaws.{length_cells}
+use Rattle.cells.specs.CellsLaws.{same_cells}
 use Rattle.cells.specs.declared.Cell.{Cell}
 use Rattle.image.specs.Program.{Code, no_op, operand_kind}
 use Rattle.image.specs.Fine.{OperandIn}
@@ -13,16 +13,17 @@ use Rattle.machine.specs.Values.{Program, code_of}
 use Rattle.machine.specs.Machine.{Handler, Frame, lucia, Object, closure, M, with_frames, with_store, used, here, Lookup, object_at}
 use Rattle.machine.specs.Opcodes.{Running, Action, makes, Taken, opcode_action, closure_action, next_action}
 use Rattle.machine.specs.Calls.{Sizes, does, outcome, Pace, pace_of, is_ready, turn_of}
-use Rattle.machine.proofs.Store.{at_keeps}
+use Rattle.machine.proofs.Store.{at_keeps, same_code}
 use Rattle.machine.proofs.FormLaws.{step_fits}
 use Rattle.moves.specs.Runs.{Runs}
 use Rattle.moves.specs.Objects.{Stored}
 use Rattle.moves.specs.declared.Running as registers
 use Rattle.plan.specs.Rest.{Same, Appends, Block}
+use Rattle.plan.proofs.RestLaws.{same_refl}
 use Rattle.plan.proofs.Appended.{appends_refl, appends_same}
 use Rattle.plan.specs.Inside.{Inside, Went, left, Nexts, Does}
 use Rattle.plan.specs.declared.Next.{Next}
-use Rattle.plan.specs.declared.Next.TheVariants.{Goes, Jumps, Throws, Stops}
+use Rattle.plan.specs.declared.Next.TheVariants.{Goes, Jumps, Throws}
 use Rattle.makes.specs.declared.Made.{Made}
 use Rattle.refusals.specs.declared.Refusal.{Refusal}
 use Rattle.makes.specs.Made.{Mades, used_by, Sets}
@@ -38,9 +39,6 @@ closure_next : (P : Program) (m : M) (h p c : ℕ) (us l st : List Cell) (hs : L
     (get_or (code_of P c).opcodes p no_op).number (get_or (code_of P c).opcodes p no_op).operand
 unfolding closure_action
 closure_next P m h p c us l st hs below x e = rw e refl
-
-pub same_code : {x : Lookup} {c d : ℕ} {us vs : List Cell} → x ≡ here (closure c us) → x ≡ here (closure d vs) → c ≡ d
-same_code h k = cc
 
 module _ {P : Program} {z : Sizes} {m : M} {r : Running} {g : registers.Running} {handle code : ℕ} {o : Op} {L S : List Cell} (y : Given P z m r g handle code o L S) where
   -- the next action is the opcode's
@@ -92,11 +90,8 @@ module _ {P : Program} {z : Sizes} {m : M} {r : Running} {g : registers.Running}
       }
 
 -- as many cells as before
-same_cells : {a b : List ℕ} → Same a b → length (cells b) ≡ length (cells a)
-same_cells {a} {b} s = length_cells b ∙ ap (λ (n : ℕ). n / 16) s.len ∙ sym (length_cells a)
-
-pub same_refl : (a : List ℕ) → Same a a
-same_refl a = record { rest = refl; len = refl }
+kept_cells : {a b : List ℕ} → Same a b → length (cells b) ≡ length (cells a)
+kept_cells {a} {b} s = same_cells a b s.len
 
 -- other frames show nothing else in the state block
 block_frames : {m : M} {B : List Cell} (F : List Frame) → Block m B → Block (with_frames F m) B
@@ -114,7 +109,7 @@ module _ {P : Program} {z : Sizes} {m : M} {r : Running} {g : registers.Running}
         frame = moved r w.place w.locals w.stack w.handlers;
         is = ap (λ (t : Taken). outcome P z t m) (next_is y) ∙ w.is;
         paces = w.paces;
-        inside = stepped_inside y w.place w.locals w.stack w.handlers [] w.is refl refl (sym (append-nil m.store)) w.runs y.inside.store (same_cells s) refl;
+        inside = stepped_inside y w.place w.locals w.stack w.handlers [] w.is refl refl (sym (append-nil m.store)) w.runs y.inside.store (kept_cells s) refl;
         at = refl;
         below = refl;
         closure = y.closure;
@@ -123,29 +118,29 @@ module _ {P : Program} {z : Sizes} {m : M} {r : Running} {g : registers.Running}
         block = block_frames F b;
       }
 
-  nexts_on : (n : Next) {live' : List ℕ} (state : List ℕ) {u : ℕ} → Nexts P z o.number o.operand m r n live live' → Same live live' → Block m (cells state) → u ≡ used m.store
+  nexts_on : (n : Result Next Refusal) {live' : List ℕ} (state : List ℕ) {u : ℕ} → Nexts P z o.number o.operand m r n live live' → Same live live' → Block m (cells state) → u ≡ used m.store
       → Stepped P z m r handle code u o (after_next n u) state live store state live' store
-  nexts_on (Goes g') state w s b q = went_on w s b q
-  nexts_on (Jumps g') state w s b q = went_on w s b q
-  nexts_on (Throws g' x) state w s b q =
+  nexts_on (Ok (Goes g')) state w s b q = went_on w s b q
+  nexts_on (Ok (Jumps g')) state w s b q = went_on w s b q
+  nexts_on (Ok (Throws g' x)) state w s b q =
       let t = w.0 in (
         record { error = t.error; place = t.place; locals = t.locals; stack = t.stack; handlers = t.handlers; is = t.is; throws = next_is y ∙ t.throws; runs = t.runs },
         record { state_is = refl; live_is = w.1; store_is = refl },
       )
-  nexts_on (Stops k) state w s b q = (ap (λ (t : Taken). outcome P z t m) (next_is y) ∙ w.0, record { state_is = refl; live_is = w.1; store_is = refl })
+  nexts_on (Err k) state w s b q = (ap (λ (t : Taken). outcome P z t m) (next_is y) ∙ w.0, record { state_is = refl; live_is = w.1; store_is = refl })
 
 -- no more of the store is used
-used_next : (n : Next) (u : ℕ) → used_after u (after_next n u) ≡ u
-used_next (Goes g) u = refl
-used_next (Jumps g) u = refl
-used_next (Throws g x) u = refl
-used_next (Stops k) u = refl
+used_next : (n : Result Next Refusal) (u : ℕ) → used_after u (after_next n u) ≡ u
+used_next (Ok (Goes g)) u = refl
+used_next (Ok (Jumps g)) u = refl
+used_next (Ok (Throws g x)) u = refl
+used_next (Err k) u = refl
 
-appends_next : (n : Next) (u : ℕ) (store : List ℕ) → Appends u (used_after u (after_next n u)) store store
+appends_next : (n : Result Next Refusal) (u : ℕ) (store : List ℕ) → Appends u (used_after u (after_next n u)) store store
 appends_next n u store = rw (used_next n u) (appends_refl u store)
 
 -- an opcode that changes nothing but its frame
-pub stays_steps : {P : Program} {g : registers.Running} {handle code : ℕ} {o : Op} {n : Next} {a : After} (state : List ℕ) {live store live' : List ℕ} (u : ℕ) → StaysOn P g handle code o n state live store live' → a ≡ after_next n u
+pub stays_steps : {P : Program} {g : registers.Running} {handle code : ℕ} {o : Op} {n : Result Next Refusal} {a : Result After Refusal} (state : List ℕ) {live store live' : List ℕ} (u : ℕ) → StaysOn P g handle code o n state live store live' → a ≡ after_next n u
     → Steps P g handle code u o a state live store state live' store
 stays_steps {n = n} state {live} {store} u s e = rw e (record {
   next = λ z m r y b q. nexts_on live store y n state (s.next z m r y b) s.same b q;
@@ -155,7 +150,7 @@ stays_steps {n = n} state {live} {store} u s e = rw e (record {
 })
 
 -- a family that is lent no store and no state block
-pub does_stays : {P : Program} {g : registers.Running} (handle code : ℕ) {o : Op} {n : Next} (state store : List ℕ) {live live' : List ℕ} → Does P o.number o.operand g n live live' → StaysOn P g handle code o n state live store live'
+pub does_stays : {P : Program} {g : registers.Running} (handle code : ℕ) {o : Op} {n : Result Next Refusal} (state store : List ℕ) {live live' : List ℕ} → Does P o.number o.operand g n live live' → StaysOn P g handle code o n state live store live'
 does_stays handle code state store d = record { next = λ z m r y b. d.next z m r _ tt y.inside; same = d.same }
 
 -- ---- Opcodes that make an object or set a global
@@ -163,7 +158,7 @@ used_made : (n : Result Made Refusal) (u : ℕ) → used_after u (after_made n) 
 used_made (Ok y) u = refl
 used_made (Err k) u = refl
 
-pub makes_steps : {P : Program} {g : registers.Running} {handle code : ℕ} {o : Op} (n : Result Made Refusal) {a : After} (state : List ℕ) {live store live' store' : List ℕ} (u : ℕ)
+pub makes_steps : {P : Program} {g : registers.Running} {handle code : ℕ} {o : Op} (n : Result Made Refusal) {a : Result After Refusal} (state : List ℕ) {live store live' store' : List ℕ} (u : ℕ)
     → ((z : Sizes) (m : M) (r : Running) → Given P z m r g handle code o (cells live) (cells store) → u ≡ used m.store → Mades P z o.number o.operand m r n live store live' store')
     → Same live live' → Appends u (used_by u n) store store' → a ≡ after_made n → Steps P g handle code u o a state live store state live' store'
 unfolding stepped_inside pace_of
@@ -184,7 +179,7 @@ makes_steps {P} {g} {handle} {code} {o} n state {live} {store} {live'} {store'} 
           frame = moved r d.place d.locals d.stack d.handlers;
           is = ap (λ (k : Taken). outcome P z k m) (next_is y) ∙ d.is;
           paces = refl;
-          inside = stepped_inside y d.place d.locals d.stack d.handlers (d.object ∷ []) d.is refl refl refl d.runs d.stored (same_cells s) (same_cells (appends_same t));
+          inside = stepped_inside y d.place d.locals d.stack d.handlers (d.object ∷ []) d.is refl refl refl d.runs d.stored (kept_cells s) (kept_cells (appends_same t));
           at = refl;
           below = refl;
           closure = y.closure;
@@ -194,7 +189,7 @@ makes_steps {P} {g} {handle} {code} {o} n state {live} {store} {live'} {store'} 
         }
     by (Err k) z m r y b d = (ap (λ (x : Taken). outcome P z x m) (next_is y) ∙ d.0, record { state_is = refl; live_is = d.1; store_is = d.2 })
 
-pub sets_steps : {P : Program} {g : registers.Running} {handle code : ℕ} {o : Op} (n : Next) {a : After} {state state' : List ℕ} (live store : List ℕ) (u : ℕ)
+pub sets_steps : {P : Program} {g : registers.Running} {handle code : ℕ} {o : Op} (n : Result Next Refusal) {a : Result After Refusal} {state state' : List ℕ} (live store : List ℕ) (u : ℕ)
     → ((z : Sizes) (m : M) (r : Running) → Given P z m r g handle code o (cells live) (cells store) → Block m (cells state) → Sets P z o.operand m r n live state state')
     → o.number ≡ 8 → Same state state' → a ≡ after_next n u → Steps P g handle code u o a state live store state' live store
 unfolding stepped_inside
@@ -205,9 +200,9 @@ sets_steps {P} {g} {handle} {code} {o} n {state = state} {state'} live store u h
   appends = appends_next n u store;
 })
   where
-    by : (n : Next) (z : Sizes) (m : M) (r : Running) → Given P z m r g handle code o (cells live) (cells store) → u ≡ used m.store → Sets P z o.operand m r n live state state'
+    by : (n : Result Next Refusal) (z : Sizes) (m : M) (r : Running) → Given P z m r g handle code o (cells live) (cells store) → u ≡ used m.store → Sets P z o.operand m r n live state state'
         → Stepped P z m r handle code u o (after_next n u) state live store state' live store
-    by (Goes g') z m r y q d =
+    by (Ok (Goes g')) z m r y q d =
         let k : outcome P z (opcode_action P m r o.number o.operand) m ≡ does d.action d.after = rw eight d.is in
         record {
           action = d.action;
@@ -223,6 +218,6 @@ sets_steps {P} {g} {handle} {code} {o} n {state = state} {state'} live store u h
           uses = q ∙ ap (λ (x : List Object). used x) (sym d.store);
           block = d.block;
         }
-    by (Jumps g') z m r y q d = absurd d
-    by (Throws g' x) z m r y q d = absurd d
-    by (Stops k) z m r y q d = (ap (λ (x : Taken). outcome P z x m) (next_is y) ∙ rw eight d.0, record { state_is = d.1; live_is = refl; store_is = refl })
+    by (Ok (Jumps g')) z m r y q d = absurd d
+    by (Ok (Throws g' x)) z m r y q d = absurd d
+    by (Err k) z m r y q d = (ap (λ (x : Taken). outcome P z x m) (next_is y) ∙ rw eight d.0, record { state_is = d.1; live_is = refl; store_is = refl })

@@ -2,7 +2,7 @@
 use Rattle.std.proofs.Math.Path.{◌≡◌, refl, sym, ap}
 use Rattle.std.proofs.Common.{subst, ◌∙◌, arith}
 use mathlib.Core.List.{List, [], ◌++◌}
-use Rattle.std.specs.Prelude.{Result, Ok, Err, Bool, true, false, ℕ, pos, length, take, drop}
+use Rattle.std.specs.Prelude.{Result, Ok, Err, Bool, true, false, ℕ, pos, length, drop}
 use Rattle.cells.specs.Le.{Bytes}
 use Rattle.cells.specs.Cells.{cells}
 use Rattle.cells.specs.declared.Cell.{Cell}
@@ -11,7 +11,8 @@ use Rattle.fuel.specs.Loans.{read, write}
 use Rattle.fuel.specs.LoanLaws.{write_read}
 use Rattle.fuel.specs.declared.Fuel.{Fuel}
 use Rattle.refusals.specs.declared.Refusal.{Refusal}
-use Rattle.refusals.specs.Refusals.{number}
+use Rattle.refusals.specs.Refusals.{number, number_of}
+use Rattle.refusals.proofs.NumberLaws.{number_not_zero}
 use Rattle.layout.specs.declared.Sizes as tables
 use Rattle.machine.specs.Values.{Program}
 use Rattle.machine.specs.Machine.{used}
@@ -21,26 +22,27 @@ use Rattle.form.specs.Entry.{view_of, store_of, Enters}
 use Rattle.requests.specs.Sent.{Sent, starting, answering, sent_outcome, sent_trace}
 use Rattle.requests.specs.SentLaws.{Lent, done_code, done_fuel, sent_stops, sent_does}
 use Rattle.requests.specs.Asked.{Leaves, SentWorld}
-use Rattle.requests.specs.FinishLaws.{some}
-use Rattle.loans.specs.Loans.{used_bytes, front_live, front_store, sizes_of}
-use Rattle.loans.specs.LoanLaws.{loans_back, whole, length_whole}
+use Rattle.loans.specs.Loans.{front_live, front_store, sizes_of}
+use Rattle.loans.specs.LoanLaws.{Parted, loans_back, whole, length_whole}
 use Rattle.loans.specs.EntryLaws.{live_cells_lem, store_cells, front_sizes, tabled, un_entered, is_entered, is_ready_lem, un_lent, lent_un_entered, lent_entered}
 use Rattle.turns.specs.Turned.{SentDone, StartCalled, AnswerCalled}
 use Rattle.turns.specs.Loaned.{SentLoans}
 
 -- ---- Over whole loans
-pub loans_sent : {P : Program} {q : Sent} {r : ℕ} {state : List ℕ} (live store : List ℕ) {l s : ℕ} → l ≡ used_bytes (length live) 65536 → s ≡ used_bytes (length store) 1048576
-    → {state' f g live' store' : List ℕ} → SentWorld P q r state (take l live) (take s store) state' f g → live' ≡ f ++ drop l live → store' ≡ g ++ drop s store
-    → SentLoans P q r state live store state' live' store'
-loans_sent {P} {q} {r} {state} live store el es {state'} w a b =
-    let x = loans_back live store el es (λ (l s l' s' : List ℕ). SentWorld P q r state l s state' l' s') w w.same_live.len w.same_store.len a b in
+pub loans_sent : {P : Program} {q : Sent} {r : ℕ} {state live store l s b d : List ℕ} → Parted live store l s b d → {state' f g live' store' : List ℕ}
+    → SentWorld P q r state l s state' f g → live' ≡ f ++ b → store' ≡ g ++ d → SentLoans P q r state live store state' live' store'
+loans_sent {P} {q} {r} {state} p {state'} w a c =
+    let x = loans_back p (λ (l s l' s' : List ℕ). SentWorld P q r state l s state' l' s') w w.same_live.len w.same_store.len a c in
     record { sent = x.0; behind_live = x.1; behind_store = x.2 }
 
 -- ---- What is sent and entered, as a call
 module _ (image state live store : List ℕ) {x : Result tables.Sizes Refusal} {rows constants inner : List ℕ} (y : Enters image state live store x rows constants inner) {h : tables.Sizes} (a : x ≡ Ok h)
-    {s : Sent} {r : ℕ} {state' live' store' : List ℕ} (l : SentLoans (tabled image rows constants inner h.codes h.constants h.inner) s r state live store state' live' store') where
+    {Q : Program} (p : Q ≡ tabled image rows constants inner h.codes h.constants h.inner) {s : Sent} {r : ℕ} {state' live' store' : List ℕ} (sends : SentLoans Q s r state live store state' live' store') where
   abbrev P : Program
   P = tabled image rows constants inner h.codes h.constants h.inner
+
+  l : SentLoans P s r state live store state' live' store'
+  l = rw p at sends
 
   abbrev w : World
   w = view_of state live store
@@ -112,41 +114,45 @@ module _ (image state live store : List ℕ) {x : Result tables.Sizes Refusal} {
 
 -- ---- The returns of a start: memory that is refused, and what was sent
 module _ (image : List ℕ) (f : Cell) (args state live store : List ℕ) {x : Result tables.Sizes Refusal} {rows constants inner : List ℕ} (y : Enters image state live store x rows constants inner) where
-  pub start_unentered : {r : Refusal} {n : ℕ} → x ≡ Err r → n ≡ number r → StartCalled image f args n state live store state live store
-  start_unentered a m = record { does = rw (m, un_entered image state live store y a) (refl, refl, refl, refl) }
+  pub start_unentered : {r : Refusal} → x ≡ Err r → StartCalled image f args (number r) state live store state live store
+  start_unentered a = record { does = rw (un_entered image state live store y a) (refl, refl, refl, refl) }
 
-  pub start_sent : {h : tables.Sizes} → x ≡ Ok h → {r n : ℕ} {state' live' store' : List ℕ} → SentLoans (tabled image rows constants inner h.codes h.constants h.inner) (starting f args) r state live store state' live' store' → n ≡ r
-      → StartCalled image f args n state live store state' live' store'
-  start_sent a l q = record { does = rw (q, is_entered image state live store y a) (sent_done image state live store y a l no_fuel refl (λ e. e) (λ _. refl)) }
+  pub start_sent : {h : tables.Sizes} → x ≡ Ok h → {P : Program} → P ≡ tabled image rows constants inner h.codes h.constants h.inner → {r : ℕ} {state' live' store' : List ℕ} → SentLoans P (starting f args) r state live store state' live' store'
+      → StartCalled image f args r state live store state' live' store'
+  start_sent a p l = record { does = rw (is_entered image state live store y a) (sent_done image state live store y a p l no_fuel refl (λ e. e) (λ _. refl)) }
 
 -- ---- The returns of an answer: a loan of fuel that is refused, memory that is refused, what was sent and refused, and what was done
 module _ (image : List ℕ) (kind word : ℕ) (v : Cell) (args handlers state live store fuel : List ℕ) {b : Result Fuel Refusal} (w : b ≡ read fuel) where
   abbrev Called : ℕ → List ℕ → List ℕ → List ℕ → List ℕ → Type 0
   Called n state' live' store' fuel' = AnswerCalled image kind word v args handlers n state live store fuel state' live' store' fuel'
 
-  pub answer_unlent : {r : Refusal} {n : ℕ} → b ≡ Err r → n ≡ number r → Called n state live store fuel
-  answer_unlent e q = record { does = rw (un_lent image state live store fuel w e, q) (refl, refl, refl, refl, refl) }
+  pub answer_unlent : {r : Refusal} → b ≡ Err r → Called (number r) state live store fuel
+  answer_unlent e = record { does = rw (un_lent image state live store fuel w e) (refl, refl, refl, refl, refl) }
 
   module _ {f : Fuel} (e : b ≡ Ok f) {x : Result tables.Sizes Refusal} {rows constants inner : List ℕ} (y : Enters image state live store x rows constants inner) where
-    pub answer_unentered : {r : Refusal} {n : ℕ} → x ≡ Err r → n ≡ number r → Called n state live store fuel
-    answer_unentered a m = record { does = rw (m, lent_un_entered image state live store fuel w e y a) (refl, refl, refl, refl, refl) }
+    pub answer_unentered : {r : Refusal} → x ≡ Err r → Called (number r) state live store fuel
+    answer_unentered a = record { does = rw (lent_un_entered image state live store fuel w e y a) (refl, refl, refl, refl, refl) }
 
-    module _ {h : tables.Sizes} (a : x ≡ Ok h) {r : ℕ} {state' live' store' : List ℕ}
-        (l : SentLoans (tabled image rows constants inner h.codes h.constants h.inner) (answering kind word v args handlers) r state live store state' live' store') (bytes : Bytes fuel) where
-      answer_called : {n : ℕ} {fuel' : List ℕ} → (r ≡ 0 → n ≡ done_code f (answering kind word v args handlers)) → ((r ≡ 0 → ⊥) → n ≡ r)
-          → (r ≡ 0 → fuel' ≡ write fuel (consume f (pos 4))) → ((r ≡ 0 → ⊥) → fuel' ≡ fuel) → Called n state' live' store' fuel'
+    module _ {h : tables.Sizes} (a : x ≡ Ok h) {P : Program} (i : P ≡ tabled image rows constants inner h.codes h.constants h.inner) (o : Result (Unit {0}) Refusal) {state' live' store' : List ℕ}
+        (l : SentLoans P (answering kind word v args handlers) (number_of o) state live store state' live' store') (bytes : Bytes fuel) where
+      answer_called : {n : ℕ} {fuel' : List ℕ} → (number_of o ≡ 0 → n ≡ done_code f (answering kind word v args handlers)) → ((number_of o ≡ 0 → ⊥) → n ≡ number_of o)
+          → (number_of o ≡ 0 → fuel' ≡ write fuel (consume f (pos 4))) → ((number_of o ≡ 0 → ⊥) → fuel' ≡ fuel) → Called n state' live' store' fuel'
       answer_called {fuel' = fuel'} p q g h =
-          let z = sent_fuel image state live store y a l f tt fuel fuel' bytes (sym w ∙ e) g h in
-          record { does = rw (lent_entered image state live store fuel w e y a) (record { sent = sent_done image state live store y a l f tt p q; charges = z.0; spares = z.1 }) }
+          let z = sent_fuel image state live store y a i l f tt fuel fuel' bytes (sym w ∙ e) g h in
+          record { does = rw (lent_entered image state live store fuel w e y a) (record { sent = sent_done image state live store y a i l f tt p q; charges = z.0; spares = z.1 }) }
 
-      pub answer_refused : (x : Refusal) {n : ℕ} → r ≡ number x → n ≡ number x → Called n state' live' store' fuel
-      answer_refused x q m =
-          let ne : r ≡ 0 → ⊥ = λ z. some x (sym q ∙ z) in
-          answer_called (λ z. absurd (ne z)) (λ _. m ∙ sym q) (λ z. absurd (ne z)) (λ _. refl)
+      pub answer_refused : {x : Refusal} → o ≡ Err x → Called (number x) state' live' store' fuel
+      answer_refused {x} k =
+          let q : number_of o ≡ number x = ap number_of k in
+          let ne : number_of o ≡ 0 → ⊥ = λ z. number_not_zero x (sym q ∙ z) in
+          answer_called (λ z. absurd (ne z)) (λ _. sym q) (λ z. absurd (ne z)) (λ _. refl)
 
-      module _ (z : r ≡ 0) {g : Fuel} (d : g ≡ consume f (pos 4)) {fuel' : List ℕ} (i : fuel' ≡ write fuel g) where
+      module _ {u : Unit {0}} (k : o ≡ Ok u) {g : Fuel} (d : g ≡ consume f (pos 4)) {fuel' : List ℕ} (s : fuel' ≡ write fuel g) where
+        z : number_of o ≡ 0
+        z = ap number_of k
+
         answer_done : {n : ℕ} → n ≡ done_code f (answering kind word v args handlers) → Called n state' live' store' fuel'
-        answer_done p = answer_called (λ _. p) (λ n. absurd (n z)) (λ _. i ∙ ap (write fuel) d) (λ n. absurd (n z))
+        answer_done p = answer_called (λ _. p) (λ n. absurd (n z)) (λ _. s ∙ ap (write fuel) d) (λ n. absurd (n z))
 
         pub answer_goes : {t : Bool} → t ≡ should_continue g → t ≡ true → Called 104 state' live' store' fuel'
         answer_goes p q = let j : should_continue (consume f (pos 4)) ≡ true = rw d at (sym p ∙ q) in answer_done (rw j refl)

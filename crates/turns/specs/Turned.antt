@@ -1,5 +1,5 @@
 -- A start and an answer as calls: "6, 1, then 2 and 4, 3, 10, 7, 11, 5", then what the machine's definition says.
-use Rattle.std.specs.Prelude.{◌≡◌, List, [], ℕ, length, drop}
+use Rattle.std.specs.Prelude.{◌≡◌, List, [], ℕ, length, drop, Result, Ok, Err}
 use Rattle.cells.specs.Cells.{cells, rest}
 use Rattle.cells.specs.declared.Cell.{Cell}
 use Rattle.fuel.specs.Loans.{read, write}
@@ -7,6 +7,8 @@ use Rattle.image.specs.Records.{Answer, refused, accepted}
 use Rattle.machine.specs.Machine.{used}
 use Rattle.machine.specs.Calls.{Sizes, no_fuel, Trace, steps_of, answer_of, fuel_after, world_after}
 use Rattle.memory.specs.Layout.{Holds}
+use Rattle.refusals.specs.Refusals.{number}
+use Rattle.refusals.specs.declared.Refusal.{Refusal}
 use Rattle.form.specs.Entry.{Entered, entry, live_of, store_of}
 use Rattle.requests.specs.Sent.{Sent, starting, answering, sent_trace}
 use Rattle.loans.specs.Loans.{front_live, front_store, Fueled, fueled, sizes_of}
@@ -32,6 +34,11 @@ pub record StartCalled (image : List ℕ) (f : Cell) (args : List ℕ) (r : ℕ)
   pub does : StartBy (sizes_of live store) (starting f args) (entry image state live store) r state live store state' live' store'
 
 -- ---- An answer, which is lent fuel
+-- what it answers: a refusal by its number
+abbrev pub code_said : Result ℕ Refusal → ℕ
+code_said (Ok n) = n
+code_said (Err x) = number x
+
 pub record AnswerDone (t : Trace) (r : ℕ) (state live store fuel state' live' store' fuel' : List ℕ) : Type 0 where
   pub sent : SentDone t r state live store state' live' store'
   pub charges : fuel' ≡ write fuel (fuel_after t)

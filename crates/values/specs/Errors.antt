@@ -1,12 +1,14 @@
 -- What an error performs and shows, by its kind.
 use Rattle.std.specs.Prelude.{◌≡◌, refl, ℕ, ◌-◌, ◌⊎◌}
 use Rattle.std.proofs.Common.{sym, ap, ◌∙◌, arith, inl, inr}
+use Rattle.cells.specs.declared.Cell.{Cell}
 use Rattle.machine.specs.Values as v
 use Rattle.machine.specs.Values.{builtin, message, thrown, shown, call_arguments, un_operator, bin_operator, meta_un_operator, meta_bin_operator, zero_divisor, lucia_error, lucia_panic}
 use Rattle.memory.specs.Layout.{error_shown}
 use Rattle.plan.specs.declared.Error.{Error}
-use Rattle.plan.specs.declared.ErrorKind.TheVariants as kinds
-use Rattle.plan.specs.Kinds.{kind_of, kind_number}
+use Rattle.results.specs.declared.ErrorKind.TheVariants as kinds
+use Rattle.plan.specs.Kinds.{kind_of}
+use Rattle.results.specs.Results.{kind_number}
 use Rattle.plan.specs.Plans.{Throws, Shows}
 
 -- ---- an error of the machine
@@ -69,9 +71,9 @@ module _ (x : Error) where
         ap (λ (z : Error). z.value) e ∙ value_is_lem y (elim h [ inl i ↦ inl (k ∙ i) | inr i ↦ inr (k ∙ i) ]);
   }
 
-  pub shows_message : {n : ℕ} → n ≡ kind_number x.kind → (x.kind ≡ kinds.Error → ⊥) → (x.kind ≡ kinds.Panic → ⊥) → Shows x (message (n - 2))
-  shows_message q m p = record {
+  pub shows_message : {n : ℕ} {c : Cell} → n ≡ kind_number x.kind → c ≡ message (n - 2) → (x.kind ≡ kinds.Error → ⊥) → (x.kind ≡ kinds.Panic → ⊥) → Shows x c
+  shows_message q w m p = record {
     is = λ y e.
         let k = ap (λ (z : Error). z.kind) e in
-        ap (λ (i : ℕ). message (i - 2)) (q ∙ ap kind_number k) ∙ message_is y (λ h. m (k ∙ h)) (λ h. p (k ∙ h));
+        w ∙ ap (λ (i : ℕ). message (i - 2)) (q ∙ ap kind_number k) ∙ message_is y (λ h. m (k ∙ h)) (λ h. p (k ∙ h));
   }

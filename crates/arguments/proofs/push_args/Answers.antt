@@ -10,7 +10,7 @@ pub push-requires : goal.push-requires
 push-requires c = search last_fits
 
 pub returns-then-p : goal.returns-then-p
-returns-then-p c = search pushes_variadic
+returns-then-p c = pushes_variadic c.if-p.true c.push_from-h.ensures c.push.ensures.0 (rw c.new.ensures at c.push.ensures.1)
 
 pub push_from-requires : goal.push_from-requires
 push_from-requires c = let e = c.requires in

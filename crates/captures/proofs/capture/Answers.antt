@@ -41,8 +41,8 @@ pub list_rest-requires : goal.list_rest-requires
 list_rest-requires c = let n = numbers c.requires in
     (omega (arith, n, c.new_object.ensures.len), n.enough)
 
-pub overflow_cast-k : goal.overflow_cast-k
-overflow_cast-k c = omega (arith, numbers c.requires)
+pub overflow_cast-c-2 : goal.overflow_cast-c-2
+overflow_cast-c-2 c = omega (arith, numbers c.requires)
 
 pub offset_bounds-starts-i-2 : goal.offset_bounds-starts-i-2
 offset_bounds-starts-i-2 c = omega (arith, numbers c.requires)
@@ -57,4 +57,4 @@ pub enter-requires : goal.enter-requires
 enter-requires c = capture_enters c.requires
 
 pub returns : goal.returns
-returns c = captures_all c.requires c.new_object.ensures c.list_rest.ensures c.enter.ensures
+returns c = captures_all c.requires c.new_object.ensures c.list_rest.ensures (rw c.new-k.ensures at c.enter.ensures)

@@ -2,8 +2,9 @@
 use native.Mathlib.Omega.{arith}
 use mathlib.Core.Path.{◌∙◌, ap}
 use Rattle.std.proofs.lemmas.Result.{err_from_is_err_and}
+use Rattle.image.proofs.RowLaws.{rows_long}
 use Rattle.form.specs.Entry.{held_answer}
-use Rattle.form.specs.EntryLaws.{reads_low, enters_block, enters_refused, enters_not, enters_accepted}
+use Rattle.form.specs.EntryLaws.{filled_is, reads_low, enters_block, enters_refused, enters_not, enters_accepted}
 use Rattle.form.proofs.enter.Goals as goal
 
 pub returns-then-state-ne8256 : goal.returns-then-state-ne8256
@@ -14,7 +15,7 @@ filled-program-requires c =
     let l = reads_low c.read_image.ensures c.in_ok-sizes.was in
     record {
       codes = l.codes;
-      rows = omega (arith, c.requires);
+      rows = rows_long c.read_image.new.rows (omega (arith, c.requires, c.read_image.auto.rows));
       constants = omega (arith, c.requires, l.used);
       inner = omega (arith, c.requires, l.codes, l.kept);
     }
@@ -26,11 +27,11 @@ returns-in_err-sizes c =
 
 pub returns-in_err-held : goal.returns-in_err-held
 returns-in_err-held c =
-    let h = c.held.ensures ∙ ap (λ P. held_answer P c.args.state.now c.args.live.now c.args.store.now) c.filled-program.ensures in
+    let h = c.held.ensures ∙ ap (λ P. held_answer P c.args.state.now c.args.live.now c.args.store.now) (filled_is c.filled-program.ensures.0 c.filled-program.ensures.2) in
     let p = err_from_is_err_and c.from_residual-in_err-held.result c.from_residual-in_err-held.ensures.1 in
     rw (p.1, p.2) (enters_not _ _ _ c.read_image.ensures c.if-state-ne8256.false c.in_ok-sizes.was (rw c.in_err-held.was at h))
 
 pub returns : goal.returns
 returns c =
-    let h = c.held.ensures ∙ ap (λ P. held_answer P c.args.state.now c.args.live.now c.args.store.now) c.filled-program.ensures in
+    let h = c.held.ensures ∙ ap (λ P. held_answer P c.args.state.now c.args.live.now c.args.store.now) (filled_is c.filled-program.ensures.0 c.filled-program.ensures.2) in
     enters_accepted _ _ _ c.read_image.ensures c.if-state-ne8256.false c.in_ok-sizes.was (rw c.in_ok-held.was at h)

@@ -10,11 +10,11 @@ returns-then-count-eq0 c = top_none _ _ _ c.if-count-eq0.true
 pub returns-then-res-ne0 : goal.returns-then-res-ne0
 returns-then-res-ne0 c = top_result _ _ _ c.if-res-ne0.true
 
-pub frames_size-top-requires : goal.frames_size-top-requires
-frames_size-top-requires c = let a = c.args in omega (arith, top_above a.count (cells a.live.now) c.if-count-eq0.false)
+pub last_frame-top-requires : goal.last_frame-top-requires
+last_frame-top-requires c = let a = c.args in (omega arith, omega (arith, top_above a.count (cells a.live.now) c.if-count-eq0.false))
 
 pub tag-requires : goal.tag-requires
-tag-requires c = let a = c.args in omega (arith, top_above a.count (cells a.live.now) c.if-count-eq0.false)
+tag-requires c = let a = c.args in omega (arith, c.last_frame-top.ensures, top_above a.count (cells a.live.now) c.if-count-eq0.false)
 
 pub returns : goal.returns
-returns c = top_is _ _ _ c.if-count-eq0.false c.if-res-ne0.false c.frames_size-top.ensures c.tag.ensures
+returns c = top_is _ _ _ c.if-count-eq0.false c.if-res-ne0.false (omega (arith, c.last_frame-top.ensures)) c.tag.ensures

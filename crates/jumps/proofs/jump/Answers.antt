@@ -3,4 +3,4 @@ use Rattle.jumps.specs.Jumps.{jump_jumps}
 use Rattle.jumps.proofs.jump.Goals as goal
 
 pub returns : goal.returns
-returns c = search jump_jumps
+returns c = λ P op live a b. jump_jumps a b c.placed.ensures

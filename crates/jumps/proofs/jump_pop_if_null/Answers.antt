@@ -5,8 +5,8 @@ use Rattle.jumps.proofs.jump_pop_if_null.Goals as goal
 pub returns-then-g-eq0 : goal.returns-then-g-eq0
 returns-then-g-eq0 c = search null_stops
 
-pub returns-then-v-eq0 : goal.returns-then-v-eq0
-returns-then-v-eq0 c = search null_jumps
+pub returns-then-is : goal.returns-then-is
+returns-then-is c = search null_jumps
 
 pub returns : goal.returns
-returns c = λ P. null_goes c.if-g-eq0.false c.top-v.ensures.0 c.if-v-eq0.false
+returns c = λ P. null_goes c.if-g-eq0.false c.top-v.ensures.0 c.is.ensures c.if-is.false

@@ -1,16 +1,14 @@
 -- `layout::read_layout` meets its contract. Assumes nothing.
+use Rattle.image.proofs.RowLaws.{rows_long}
 use Rattle.layout.specs.RecordsLaws.{whole_of}
-use Rattle.layout.specs.Reads.{layout_short, layout_long, layout_not, layout_refused, layout_accepted, layout_over}
+use Rattle.layout.specs.Reads.{layout_unsized, layout_not, layout_refused, layout_accepted, layout_over}
 use borrow.Author.Rules.{rules}
 use Rattle.std.proofs.Common.{ap, not}
 use Rattle.std.proofs.lemmas.Result.{err_from_is_err_and}
 use Rattle.layout.proofs.read_layout.Goals as goal
 
 pub returns-then-image-lt6 : goal.returns-then-image-lt6
-returns-then-image-lt6 c = record { does = search layout_short; low = search rules }
-
-pub returns-then-image-gt65536 : goal.returns-then-image-gt65536
-returns-then-image-gt65536 c = record { does = search layout_long; low = search rules }
+returns-then-image-lt6 c = record { does = layout_unsized _ c.then-image-lt6.either; low = search rules }
 
 pub returns-then-not-is_whole : goal.returns-then-not-is_whole
 returns-then-not-is_whole c = record { does = search layout_not; low = search rules }
@@ -28,3 +26,6 @@ returns-in_err-held c =
 
 pub returns : goal.returns
 returns c = layout_over _ c.if-image-lt6.false c.if-image-gt65536.false c.is_whole.ensures (ap not c.if-not-is_whole.false) c.after-end.ensures c.read_code.ensures c.in_ok-held.was c.if-end-image.false
+
+pub read_code-requires : goal.read_code-requires
+read_code-requires c = let l = rows_long _ c.requires.0 in search rules

@@ -22,4 +22,4 @@ pub fresh-requires : goal.fresh-requires
 fresh-requires c = (c.if-state-ne8256.false, omega arith, omega (arith, load_few _ c.outermost_of.ensures c.in_ok-captures.was))
 
 pub returns : goal.returns
-returns c = load_fresh _ _ _ _ c.if-state-ne8256.false c.outermost_of.ensures c.in_ok-captures.was c.room.ensures (omega arith) c.fresh.ensures
+returns c = load_fresh _ _ _ _ c.if-state-ne8256.false c.outermost_of.ensures c.in_ok-captures.was c.room.ensures (omega arith) c.new.ensures c.fresh.ensures

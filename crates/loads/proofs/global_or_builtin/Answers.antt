@@ -3,8 +3,8 @@ use Rattle.loads.specs.Loads.{global_null, global_there}
 use borrow.Author.Rules.{rules}
 use Rattle.loads.proofs.global_or_builtin.Goals as goal
 
-pub returns-then-v-eq0 : goal.returns-then-v-eq0
-returns-then-v-eq0 c = (search global_null, search rules)
+pub returns-then-is : goal.returns-then-is
+returns-then-is c = (search global_null, search rules)
 
 pub returns : goal.returns
 returns c = (search global_there, search rules)

@@ -5,8 +5,8 @@ use Rattle.loads.proofs.store_local.Goals as goal
 pub returns-then-g-eq0 : goal.returns-then-g-eq0
 returns-then-g-eq0 c = search store_stops
 
-pub returns-then-v-eq2 : goal.returns-then-v-eq2
-returns-then-v-eq2 c = search stored_parts
+pub returns-then-is : goal.returns-then-is
+returns-then-is c = search stored_parts
 
 pub returns : goal.returns
 returns c = search stored_local

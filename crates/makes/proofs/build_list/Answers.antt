@@ -31,8 +31,8 @@ end-requires-2 c = omega arith
 pub new_object-requires : goal.new_object-requires
 new_object-requires c = (search rules, omega (arith, c.end-2.ensures, ap (λ (g : Running). end_of g) c.dropped-h.ensures, c.if-n-g.false, c.requires))
 
-pub overflow_cast-list : goal.overflow_cast-list
-overflow_cast-list c = omega arith
+pub overflow_cast-used : goal.overflow_cast-used
+overflow_cast-used c = omega arith
 
 pub push-g-requires : goal.push-g-requires
 push-g-requires c = omega arith

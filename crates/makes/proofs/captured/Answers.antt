@@ -7,10 +7,10 @@ pub overflow_cast-c : goal.overflow_cast-c
 overflow_cast-c c = omega arith
 
 pub local-requires : goal.local-requires
-local-requires c = local_fits c.requires c.capture-c.ensures c.if-c-eq0.true
+local-requires c = local_fits c.requires c.capture-c.ensures c.if-c.true
 
-pub returns-then-c-eq0 : goal.returns-then-c-eq0
-returns-then-c-eq0 c = search capture_local
+pub returns-then-c : goal.returns-then-c
+returns-then-c c = search capture_local
 
 pub overflow_cast-c-2 : goal.overflow_cast-c-2
 overflow_cast-c-2 c = omega arith

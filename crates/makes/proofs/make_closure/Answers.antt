@@ -1,6 +1,7 @@
 -- `makes::make_closure` meets its contract: `Closing` says which upvalues are put. Assumes nothing.
 use native.Mathlib.Omega.{arith}
 use Rattle.makes.specs.Closures.{closable_bounds, closure_no_live, closure_no_store, closing_begun, capturable, closing_more, closure_made}
+use Rattle.image.specs.Layout.{flat}
 use Rattle.makes.proofs.make_closure.Goals as goal
 
 pub capture_count-n-requires : goal.capture_count-n-requires
@@ -28,7 +29,7 @@ pub new_closure-requires : goal.new_closure-requires
 new_closure-requires c = omega arith
 
 pub loop-i-init : goal.loop-i-init
-loop-i-init c = closing_begun c.args.program.now.image.now c.args.program.now.rows.now c.args.program.now.constants.now c.args.program.now.inner.now c.args.program.now.codes c.requires c.capture_count-n.ensures c.room-2.ensures c.if-room-used.false c.new_closure.ensures
+loop-i-init c = closing_begun c.args.program.now.image.now (flat c.args.program.now.rows.now) c.args.program.now.constants.now c.args.program.now.inner.now c.args.program.now.codes c.requires c.capture_count-n.ensures c.room-2.ensures c.if-room-used.false c.new_closure.ensures
 
 pub captured-v-requires : goal.captured-v-requires
 captured-v-requires c = capturable c.loop-i.invariant c.loop-i-test.true
@@ -45,8 +46,8 @@ put-requires c = omega arith
 pub loop-i-preserved : goal.loop-i-preserved
 loop-i-preserved c = closing_more c.loop-i.invariant c.loop-i-test.true c.captured-v.ensures c.put.ensures
 
-pub overflow_cast-closure : goal.overflow_cast-closure
-overflow_cast-closure c = omega arith
+pub overflow_cast-used : goal.overflow_cast-used
+overflow_cast-used c = omega arith
 
 pub push-g-requires : goal.push-g-requires
 push-g-requires c = omega arith
@@ -61,4 +62,4 @@ pub shape_of-store : goal.shape_of-store
 shape_of-store c = omega arith
 
 pub returns : goal.returns
-returns c = closure_made c.loop-i.invariant c.new_closure.ensures c.loop-i-test.false c.push-g.ensures.1
+returns c = closure_made c.loop-i.invariant c.new_closure.ensures c.loop-i-test.false c.new.ensures c.push-g.ensures.1

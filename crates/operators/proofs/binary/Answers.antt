@@ -9,9 +9,6 @@ returns-then-g-lt2 c = search binary_stops
 pub top-b-requires : goal.top-b-requires
 top-b-requires c = omega arith
 
-pub binary_of-requires : goal.binary_of-requires
-binary_of-requires c = omega arith
-
 pub computed-requires : goal.computed-requires
 computed-requires c = omega arith
 

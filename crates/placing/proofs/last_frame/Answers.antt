@@ -8,9 +8,6 @@ use Rattle.moves.specs.declared.Running.{Running}
 use borrow.Author.Rules.{rules}
 use Rattle.placing.proofs.last_frame.Goals as goal
 
-pub loop-init : goal.loop-init
-loop-init c = let e : c.args.count + 1 - 1 ≡ c.args.count = omega arith in record { some = search rules; ahead = rw e }
-
 pub open-requires : goal.open-requires
 open-requires c = omega (arith, walks_fits c.loop.invariant (search rules), c.requires.1)
 

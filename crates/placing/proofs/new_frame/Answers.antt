@@ -5,4 +5,4 @@ use Rattle.placing.proofs.new_frame.Goals as goal
 
 pub returns : goal.returns
 returns c = let x = c.args in
-    starts x.locals x.from x.n (search rules) (search rules) c.copy_within.ensures c.put.ensures c.put-2.ensures c.put-3.ensures c.fill.ensures
+    starts x.locals x.from x.n (search rules) (search rules) c.copy_within.ensures c.put.ensures c.put-2.ensures (rw c.new.ensures at c.put-3.ensures) c.fill.ensures

@@ -10,9 +10,6 @@ kept-g-requires c = let p = c.requires in open_fits p.0 refl p.1
 pub end-requires : goal.end-requires
 end-requires c = let p = c.requires in omega (arith, back_fits p.0 refl p.1 c.kept-g.ensures.0)
 
-pub overflow_sub-end : goal.overflow_sub-end
-overflow_sub-end c = let p = c.requires in omega (arith, c.end.ensures, back_fits p.0 refl p.1 c.kept-g.ensures.0)
-
 pub copy-requires : goal.copy-requires
 copy-requires c = let p = c.requires in
     let f = back_fits p.0 refl p.1 c.kept-g.ensures.0 in

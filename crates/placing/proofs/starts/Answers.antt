@@ -1,8 +1,7 @@
 -- `placing::starts` meets its contract: the loop keeps `Starting` for the frames that it has passed. Assumes nothing.
 use mathlib.Core.Path.{refl}
 use native.Mathlib.Omega.{arith}
-use Rattle.moves.specs.Starts.{starting_none, starting_fits, starting_next, starting_all}
-use borrow.Author.Rules.{rules}
+use Rattle.moves.specs.Starts.{starting_none, starting_fits, starting_next}
 use Rattle.placing.proofs.starts.Goals as goal
 
 pub loop-i-init : goal.loop-i-init
@@ -17,17 +16,8 @@ end-next-requires c = omega (arith, starting_fits c.loop-i.invariant.0 c.«open�
 pub overflow_cast-table : goal.overflow_cast-table
 overflow_cast-table c = omega (arith, starting_fits c.loop-i.invariant.0 c.«open».ensures.0 c.end-next.ensures c.loop-i-test.true, c.requires.0, c.requires.1)
 
-pub bounds-table-i : goal.bounds-table-i
-bounds-table-i c = omega (arith, c.loop-i.invariant.0.len, c.loop-i-test.true, c.requires.2)
-
 pub loop-i-preserved : goal.loop-i-preserved
 loop-i-preserved c = (
   starting_next c.loop-i.invariant.0 c.«open».ensures.0 c.end-next.ensures (omega (arith, c.loop-i-test.true, c.requires.2)),
   omega (arith, c.loop-i-test.true),
 )
-
-pub shape_of-table : goal.shape_of-table
-shape_of-table c = c.loop-i.invariant.0.len
-
-pub returns : goal.returns
-returns c = starting_all c.loop-i.invariant.0 c.loop-i.invariant.1 (search rules)

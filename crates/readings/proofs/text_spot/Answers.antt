@@ -1,12 +1,15 @@
 -- `readings::text_spot` meets its contract. Assumes nothing.
-use Rattle.readings.specs.ReadingLaws.{text_image, text_page, text_other}
+use Rattle.readings.specs.ReadingLaws.{text_image, text_page, text_other, message_low}
 use Rattle.readings.proofs.text_spot.Goals as goal
 
-pub returns-in-4 : goal.returns-in-4
-returns-in-4 c = search (text_image, c.in_ok-place.was)
+pub returns-then-is : goal.returns-then-is
+returns-then-is c = text_image _ _ _ _ c.entered_with.ensures _ c.in_ok-named.was c.is.ensures c.if-is.true c.of_image.ensures
 
-pub returns-in-20 : goal.returns-in-20
-returns-in-20 c = search (text_page, c.in_ok-place.was)
+pub message-requires : goal.message-requires
+message-requires c = message_low _ _ _ _ c.entered_with.ensures c.in_ok-named.was c.is-2.ensures c.if-is-2.true
 
-pub returns-in_default : goal.returns-in_default
-returns-in_default c = search (text_other, c.in_ok-place.was)
+pub returns-then-is-2 : goal.returns-then-is-2
+returns-then-is-2 c = text_page _ _ _ _ c.entered_with.ensures _ c.in_ok-named.was c.is-2.ensures c.if-is-2.true c.message.ensures
+
+pub returns : goal.returns
+returns c = text_other _ _ _ _ c.entered_with.ensures _ c.in_ok-named.was c.is.ensures c.if-is.false c.is-2.ensures c.if-is-2.false

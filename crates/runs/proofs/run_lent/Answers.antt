@@ -13,8 +13,8 @@ starts-end-requires c = lent_starts c.requires c.frames-frames.ensures
 pub overflow_add-c : goal.overflow_add-c
 overflow_add-c c = omega (arith, lent_live c.requires c.frames-frames.ensures c.starts-end.ensures c.payload.ensures)
 
-pub returns-then-waits-ne0 : goal.returns-then-waits-ne0
-returns-then-waits-ne0 c = lent_turn c.requires c.waits.ensures c.if-waits-ne0.true
+pub returns-then-waits : goal.returns-then-waits
+returns-then-waits c = lent_turn c.requires c.waits.ensures c.if-waits.true
 
 pub run-r-requires : goal.run-r-requires
 run-r-requires c = lent_groupable c.requires c.frames-frames.ensures c.starts-end.ensures (search rules) c.payload.ensures c.used.ensures c.slice-left.ensures (search rules)
@@ -23,10 +23,10 @@ pub leave-requires : goal.leave-requires
 leave-requires c = lent_leavable c.requires c.frames-frames.ensures c.starts-end.ensures (search) c.payload.ensures c.used.ensures c.slice-left.ensures c.run-r.ensures
 
 pub returns-in-Host : goal.returns-in-Host
-returns-in-Host c = lent_waits c.requires c.frames-frames.ensures c.starts-end.ensures (search) c.payload.ensures c.used.ensures c.slice-left.ensures c.run-r.ensures c.waits.ensures c.if-waits-ne0.false (ap code_of c.in-Host.is) c.leave.ensures
+returns-in-Host c = lent_waits c.requires c.frames-frames.ensures c.starts-end.ensures (search) c.payload.ensures c.used.ensures c.slice-left.ensures c.run-r.ensures c.waits.ensures c.if-waits.false (ap code_of c.in-Host.is) c.leave.ensures
 
 pub leave-requires-2 : goal.leave-requires-2
 leave-requires-2 c = lent_leavable c.requires c.frames-frames.ensures c.starts-end.ensures (search) c.payload.ensures c.used.ensures c.slice-left.ensures c.run-r.ensures
 
 pub returns : goal.returns
-returns c = lent_ends c.requires c.frames-frames.ensures c.starts-end.ensures (search) c.payload.ensures c.used.ensures c.slice-left.ensures c.run-r.ensures c.waits.ensures c.if-waits-ne0.false (λ e. c.in_default.not-Host (waits_host _ e)) c.leave-2.ensures
+returns c = lent_ends c.requires c.frames-frames.ensures c.starts-end.ensures (search) c.payload.ensures c.used.ensures c.slice-left.ensures c.run-r.ensures c.waits.ensures c.if-waits.false (λ e. c.in_default.not-Host (waits_host _ e)) c.leave-2.ensures

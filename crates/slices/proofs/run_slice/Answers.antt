@@ -1,4 +1,6 @@
 -- `slices::run_slice` meets its contract: the invariant says that what is left of the run, after the opcodes taken, is the whole run; the measure is the ticks left. Assumes nothing.
+use mathlib.Core.Path.{ap}
+use Rattle.std.proofs.Common.{◌∙◌, Ok}
 use native.Mathlib.Omega.{arith}
 use Rattle.slices.specs.Looping.{looping_first, some_sliceable, opcode_there, place_low, step_ready, loops_on, loops_jumped, quick_less, loops_quick, ends_spent, ends_throws, ends_refused, ends_closes, ends_paused}
 use Rattle.slices.proofs.run_slice.Goals as goal
@@ -31,7 +33,7 @@ pub step-requires : goal.step-requires
 step-requires c = step_ready (loops_quick c.loop-ticks.invariant c.run_quick-q.ensures) c.past.ensures c.opcode-o.ensures
 
 pub returns-then-left-eq0 : goal.returns-then-left-eq0
-returns-then-left-eq0 c = ends_spent (loops_quick c.loop-ticks.invariant c.run_quick-q.ensures) c.past.ensures c.opcode-o.ensures (omega (arith, c.if-ticks-eq0.false)) c.step.ensures c.in-On.is c.if-left-eq0.true c.sliced-then-left-eq0.ensures
+returns-then-left-eq0 c = ends_spent (loops_quick c.loop-ticks.invariant c.run_quick-q.ensures) c.past.ensures c.opcode-o.ensures (omega (arith, c.if-ticks-eq0.false)) c.step.ensures (c.in-Ok-On.is ∙ ap Ok c.in-Ok-On.field-0-is) c.if-left-eq0.true c.sliced-then-left-eq0.ensures
 
 pub shape_of-state-then-left-eq0 : goal.shape_of-state-then-left-eq0
 shape_of-state-then-left-eq0 c = (returns-then-left-eq0 c).same_state.len
@@ -42,53 +44,53 @@ shape_of-live-then-left-eq0 c = (returns-then-left-eq0 c).same_live.len
 pub shape_of-store-then-left-eq0 : goal.shape_of-store-then-left-eq0
 shape_of-store-then-left-eq0 c = (returns-then-left-eq0 c).appends.len
 
-pub loop-ticks-smaller-in-On : goal.loop-ticks-smaller-in-On
-loop-ticks-smaller-in-On c = omega (arith, quick_less c.loop-ticks.invariant c.run_quick-q.ensures, c.if-ticks-eq0.false)
+pub loop-ticks-smaller-in-Ok-On : goal.loop-ticks-smaller-in-Ok-On
+loop-ticks-smaller-in-Ok-On c = omega (arith, quick_less c.loop-ticks.invariant c.run_quick-q.ensures, c.if-ticks-eq0.false)
 
-pub loop-ticks-preserved-in-On : goal.loop-ticks-preserved-in-On
-loop-ticks-preserved-in-On c = loops_on (loops_quick c.loop-ticks.invariant c.run_quick-q.ensures) c.past.ensures c.opcode-o.ensures (omega (arith, c.if-ticks-eq0.false)) c.step.ensures c.in-On.is c.if-left-eq0.false
+pub loop-ticks-preserved-in-Ok-On : goal.loop-ticks-preserved-in-Ok-On
+loop-ticks-preserved-in-Ok-On c = loops_on (loops_quick c.loop-ticks.invariant c.run_quick-q.ensures) c.past.ensures c.opcode-o.ensures (omega (arith, c.if-ticks-eq0.false)) c.step.ensures (c.in-Ok-On.is ∙ ap Ok c.in-Ok-On.field-0-is) c.if-left-eq0.false
 
 pub loop-ticks-smaller : goal.loop-ticks-smaller
 loop-ticks-smaller c = omega (arith, quick_less c.loop-ticks.invariant c.run_quick-q.ensures, c.if-ticks-eq0.false)
 
 pub loop-ticks-preserved : goal.loop-ticks-preserved
-loop-ticks-preserved c = loops_jumped (loops_quick c.loop-ticks.invariant c.run_quick-q.ensures) c.past.ensures c.opcode-o.ensures (omega (arith, c.if-ticks-eq0.false)) c.step.ensures c.in-Jumped.is
+loop-ticks-preserved c = loops_jumped (loops_quick c.loop-ticks.invariant c.run_quick-q.ensures) c.past.ensures c.opcode-o.ensures (omega (arith, c.if-ticks-eq0.false)) c.step.ensures (c.in-Ok-Jumped.is ∙ ap Ok c.in-Ok-Jumped.field-0-is)
 
-pub returns-in-Throws : goal.returns-in-Throws
-returns-in-Throws c = ends_throws (loops_quick c.loop-ticks.invariant c.run_quick-q.ensures) c.past.ensures c.opcode-o.ensures (omega (arith, c.if-ticks-eq0.false)) c.step.ensures c.in-Throws.is c.sliced-in-Throws.ensures
+pub returns-in-Ok-Throws : goal.returns-in-Ok-Throws
+returns-in-Ok-Throws c = ends_throws (loops_quick c.loop-ticks.invariant c.run_quick-q.ensures) c.past.ensures c.opcode-o.ensures (omega (arith, c.if-ticks-eq0.false)) c.step.ensures (c.in-Ok-Throws.is ∙ ap Ok c.in-Ok-Throws.field-0-is) c.sliced-in-Ok-Throws.ensures
 
-pub shape_of-state-in-Throws : goal.shape_of-state-in-Throws
-shape_of-state-in-Throws c = (returns-in-Throws c).same_state.len
+pub shape_of-state-in-Ok-Throws : goal.shape_of-state-in-Ok-Throws
+shape_of-state-in-Ok-Throws c = (returns-in-Ok-Throws c).same_state.len
 
-pub shape_of-live-in-Throws : goal.shape_of-live-in-Throws
-shape_of-live-in-Throws c = (returns-in-Throws c).same_live.len
+pub shape_of-live-in-Ok-Throws : goal.shape_of-live-in-Ok-Throws
+shape_of-live-in-Ok-Throws c = (returns-in-Ok-Throws c).same_live.len
 
-pub shape_of-store-in-Throws : goal.shape_of-store-in-Throws
-shape_of-store-in-Throws c = (returns-in-Throws c).appends.len
+pub shape_of-store-in-Ok-Throws : goal.shape_of-store-in-Ok-Throws
+shape_of-store-in-Ok-Throws c = (returns-in-Ok-Throws c).appends.len
 
-pub returns-in-Stops : goal.returns-in-Stops
-returns-in-Stops c = ends_refused (loops_quick c.loop-ticks.invariant c.run_quick-q.ensures) c.past.ensures c.opcode-o.ensures (omega (arith, c.if-ticks-eq0.false)) c.step.ensures c.in-Stops.is c.sliced-in-Stops.ensures
+pub returns-in-Err : goal.returns-in-Err
+returns-in-Err c = ends_refused (loops_quick c.loop-ticks.invariant c.run_quick-q.ensures) c.past.ensures c.opcode-o.ensures (omega (arith, c.if-ticks-eq0.false)) c.step.ensures c.in-Err.is c.sliced-in-Err.ensures
 
-pub shape_of-state-in-Stops : goal.shape_of-state-in-Stops
-shape_of-state-in-Stops c = (returns-in-Stops c).same_state.len
+pub shape_of-state-in-Err : goal.shape_of-state-in-Err
+shape_of-state-in-Err c = (returns-in-Err c).same_state.len
 
-pub shape_of-live-in-Stops : goal.shape_of-live-in-Stops
-shape_of-live-in-Stops c = (returns-in-Stops c).same_live.len
+pub shape_of-live-in-Err : goal.shape_of-live-in-Err
+shape_of-live-in-Err c = (returns-in-Err c).same_live.len
 
-pub shape_of-store-in-Stops : goal.shape_of-store-in-Stops
-shape_of-store-in-Stops c = (returns-in-Stops c).appends.len
+pub shape_of-store-in-Err : goal.shape_of-store-in-Err
+shape_of-store-in-Err c = (returns-in-Err c).appends.len
 
-pub returns-in-Closing : goal.returns-in-Closing
-returns-in-Closing c = ends_closes (loops_quick c.loop-ticks.invariant c.run_quick-q.ensures) c.past.ensures c.opcode-o.ensures (omega (arith, c.if-ticks-eq0.false)) c.step.ensures c.in-Closing.is c.sliced-in-Closing.ensures
+pub returns-in-Ok-Closing : goal.returns-in-Ok-Closing
+returns-in-Ok-Closing c = ends_closes (loops_quick c.loop-ticks.invariant c.run_quick-q.ensures) c.past.ensures c.opcode-o.ensures (omega (arith, c.if-ticks-eq0.false)) c.step.ensures (c.in-Ok-Closing.is ∙ ap Ok c.in-Ok-Closing.field-0-is) c.sliced-in-Ok-Closing.ensures
 
-pub shape_of-state-in-Closing : goal.shape_of-state-in-Closing
-shape_of-state-in-Closing c = (returns-in-Closing c).same_state.len
+pub shape_of-state-in-Ok-Closing : goal.shape_of-state-in-Ok-Closing
+shape_of-state-in-Ok-Closing c = (returns-in-Ok-Closing c).same_state.len
 
-pub shape_of-live-in-Closing : goal.shape_of-live-in-Closing
-shape_of-live-in-Closing c = (returns-in-Closing c).same_live.len
+pub shape_of-live-in-Ok-Closing : goal.shape_of-live-in-Ok-Closing
+shape_of-live-in-Ok-Closing c = (returns-in-Ok-Closing c).same_live.len
 
-pub shape_of-store-in-Closing : goal.shape_of-store-in-Closing
-shape_of-store-in-Closing c = (returns-in-Closing c).appends.len
+pub shape_of-store-in-Ok-Closing : goal.shape_of-store-in-Ok-Closing
+shape_of-store-in-Ok-Closing c = (returns-in-Ok-Closing c).appends.len
 
 pub returns : goal.returns
 returns c = search ends_paused

@@ -1,12 +1,9 @@
 -- `steps::jump_opcode` meets its contract. Assumes nothing.
 use mathlib.Core.Path.{refl, ap}
-use Rattle.steps.specs.Families.{numbered, does_as, number_does, plain_does, nop_does}
+use Rattle.steps.specs.Families.{numbered, does_as, number_does, nop_does}
 use Rattle.steps.specs.declared.Jump.TheVariants.{Plain, PopIfNull, PopIf, IfOrPop, RegisterHandler, CheckEffect, Nop}
 use Rattle.steps.specs.declared.Family.TheVariants.{Moves}
 use Rattle.steps.proofs.jump_opcode.Goals as goal
-
-pub jump-requires : goal.jump-requires
-jump-requires c = numbered _ (Moves Plain) (ap Moves c.in-Plain.is) c.requires.1
 
 pub pop_jump_if-requires : goal.pop_jump_if-requires
 pop_jump_if-requires c = let w = numbered _ (Moves PopIf) (ap Moves c.in-PopIf.is) c.requires.1 in (c.requires.0, w.0, w.1)
@@ -15,7 +12,7 @@ pub jump_if_or_pop-requires : goal.jump_if_or_pop-requires
 jump_if_or_pop-requires c = let w = numbered _ (Moves IfOrPop) (ap Moves c.in-IfOrPop.is) c.requires.1 in (c.requires.0, w.0, w.1)
 
 pub returns-in-Plain : goal.returns-in-Plain
-returns-in-Plain c = plain_does c.jump.ensures
+returns-in-Plain c = let w = numbered _ (Moves Plain) (ap Moves c.in-Plain.is) c.requires.1 in c.jump.ensures _ _ _ w.0 w.1
 
 pub returns-in-PopIfNull : goal.returns-in-PopIfNull
 returns-in-PopIfNull c = number_does (numbered _ (Moves PopIfNull) (ap Moves c.in-PopIfNull.is) c.requires.1) c.jump_pop_if_null.ensures

@@ -1,95 +1,89 @@
 -- `steps::quick_step` meets its contract. Assumes nothing.
+use mathlib.Core.Path.{ap}
+use Rattle.std.proofs.Common.{◌∙◌}
 use native.Mathlib.Omega.{arith}
-use Rattle.steps.specs.Families.{ready_fits, local_loads, local_stores, const_asks}
-use Rattle.steps.specs.Quickly.{quick_number, quick_pop, quick_jump, quick_made, quick_other}
+use Rattle.image.specs.Kinds.{opcode_number}
+use Rattle.steps.specs.Families.{named_as, ready_fits, local_loads, local_stores, const_asks}
+use Rattle.steps.specs.Quickly.{quick_by, quick_number, quick_pop, quick_jump, quick_made}
 use Rattle.steps.proofs.quick_step.Goals as goal
 
 pub load_local-requires : goal.load_local-requires
-load_local-requires c = local_loads c.requires.ready c.in-3.is
+load_local-requires c = local_loads c.requires.ready (named_as c.try_from.ensures c.in-Ok.is ∙ ap opcode_number c.in-LoadLocal.is)
 
 pub quick_const-requires : goal.quick_const-requires
-quick_const-requires c = const_asks c.requires c.in-6.is
+quick_const-requires c = const_asks c.requires (named_as c.try_from.ensures c.in-Ok.is ∙ ap opcode_number c.in-LoadConst.is)
 
 pub store_local-requires : goal.store_local-requires
-store_local-requires c = local_stores c.requires.ready c.in-7.is
+store_local-requires c = local_stores c.requires.ready (named_as c.try_from.ensures c.in-Ok.is ∙ ap opcode_number c.in-StoreLocal.is)
 
-pub arithmetic-requires : goal.arithmetic-requires
-arithmetic-requires c = (ready_fits c.requires.ready, omega arith, omega arith, λ e. omega (arith, e), λ e. omega (arith, e))
+pub returns-in-Pop : goal.returns-in-Pop
+returns-in-Pop c = quick_pop c.requires (named_as c.try_from.ensures c.in-Ok.is ∙ ap opcode_number c.in-Pop.is) c.pop.ensures c.quick_next.ensures
 
-pub arithmetic-requires-in-20 : goal.arithmetic-requires-in-20
-arithmetic-requires-in-20 c = (ready_fits c.requires.ready, omega arith, omega arith, λ e. omega (arith, e), λ e. omega (arith, e))
+pub binary-requires : goal.binary-requires
+binary-requires c = ready_fits c.requires.ready
 
-pub arithmetic-requires-in-21 : goal.arithmetic-requires-in-21
-arithmetic-requires-in-21 c = (ready_fits c.requires.ready, omega arith, omega arith, λ e. omega (arith, e), λ e. omega (arith, e))
+pub returns-in-Add : goal.returns-in-Add
+returns-in-Add c = quick_by c.requires (named_as c.try_from.ensures c.in-Ok.is ∙ ap opcode_number c.in-Add.is) c.binary.ensures c.quick_next-in-Add.ensures
 
-pub arithmetic-requires-in-26 : goal.arithmetic-requires-in-26
-arithmetic-requires-in-26 c = (ready_fits c.requires.ready, omega arith, omega arith, λ e. omega (arith, e), λ e. omega (arith, e))
+pub binary-requires-in-Sub : goal.binary-requires-in-Sub
+binary-requires-in-Sub c = ready_fits c.requires.ready
 
-pub arithmetic-requires-in-27 : goal.arithmetic-requires-in-27
-arithmetic-requires-in-27 c = (ready_fits c.requires.ready, omega arith, omega arith, λ e. omega (arith, e), λ e. omega (arith, e))
+pub returns-in-Sub : goal.returns-in-Sub
+returns-in-Sub c = quick_by c.requires (named_as c.try_from.ensures c.in-Ok.is ∙ ap opcode_number c.in-Sub.is) c.binary-in-Sub.ensures c.quick_next-in-Sub.ensures
 
-pub arithmetic-requires-in-28 : goal.arithmetic-requires-in-28
-arithmetic-requires-in-28 c = (ready_fits c.requires.ready, omega arith, omega arith, λ e. omega (arith, e), λ e. omega (arith, e))
+pub binary-requires-in-Mul : goal.binary-requires-in-Mul
+binary-requires-in-Mul c = ready_fits c.requires.ready
 
-pub arithmetic-requires-in-29 : goal.arithmetic-requires-in-29
-arithmetic-requires-in-29 c = (ready_fits c.requires.ready, omega arith, omega arith, λ e. omega (arith, e), λ e. omega (arith, e))
+pub returns-in-Mul : goal.returns-in-Mul
+returns-in-Mul c = quick_by c.requires (named_as c.try_from.ensures c.in-Ok.is ∙ ap opcode_number c.in-Mul.is) c.binary-in-Mul.ensures c.quick_next-in-Mul.ensures
 
-pub jump-requires : goal.jump-requires
-jump-requires c = (omega arith, omega arith)
+pub binary-requires-in-Gt : goal.binary-requires-in-Gt
+binary-requires-in-Gt c = ready_fits c.requires.ready
 
-pub jump-requires-in-41 : goal.jump-requires-in-41
-jump-requires-in-41 c = (omega arith, omega arith)
+pub returns-in-Gt : goal.returns-in-Gt
+returns-in-Gt c = quick_by c.requires (named_as c.try_from.ensures c.in-Ok.is ∙ ap opcode_number c.in-Gt.is) c.binary-in-Gt.ensures c.quick_next-in-Gt.ensures
+
+pub binary-requires-in-Ge : goal.binary-requires-in-Ge
+binary-requires-in-Ge c = ready_fits c.requires.ready
+
+pub returns-in-Ge : goal.returns-in-Ge
+returns-in-Ge c = quick_by c.requires (named_as c.try_from.ensures c.in-Ok.is ∙ ap opcode_number c.in-Ge.is) c.binary-in-Ge.ensures c.quick_next-in-Ge.ensures
+
+pub binary-requires-in-Lt : goal.binary-requires-in-Lt
+binary-requires-in-Lt c = ready_fits c.requires.ready
+
+pub returns-in-Lt : goal.returns-in-Lt
+returns-in-Lt c = quick_by c.requires (named_as c.try_from.ensures c.in-Ok.is ∙ ap opcode_number c.in-Lt.is) c.binary-in-Lt.ensures c.quick_next-in-Lt.ensures
+
+pub binary-requires-in-Le : goal.binary-requires-in-Le
+binary-requires-in-Le c = ready_fits c.requires.ready
+
+pub returns-in-Le : goal.returns-in-Le
+returns-in-Le c = quick_by c.requires (named_as c.try_from.ensures c.in-Ok.is ∙ ap opcode_number c.in-Le.is) c.binary-in-Le.ensures c.quick_next-in-Le.ensures
 
 pub pop_jump_if-requires : goal.pop_jump_if-requires
 pop_jump_if-requires c = (ready_fits c.requires.ready, omega arith, omega arith)
 
-pub pop_jump_if-requires-in-46 : goal.pop_jump_if-requires-in-46
-pop_jump_if-requires-in-46 c = (ready_fits c.requires.ready, omega arith, omega arith)
+pub returns-in-PopJumpIfTrue : goal.returns-in-PopJumpIfTrue
+returns-in-PopJumpIfTrue c = quick_number c.requires (named_as c.try_from.ensures c.in-Ok.is ∙ ap opcode_number c.in-PopJumpIfTrue.is) c.pop_jump_if.ensures c.quick_next-in-PopJumpIfTrue.ensures
 
-pub returns-in-0 : goal.returns-in-0
-returns-in-0 c = quick_pop c.requires c.in-0.is c.pop.ensures c.quick_next.ensures
+pub pop_jump_if-requires-in-PopJumpIfFalse : goal.pop_jump_if-requires-in-PopJumpIfFalse
+pop_jump_if-requires-in-PopJumpIfFalse c = (ready_fits c.requires.ready, omega arith, omega arith)
 
-pub returns-in-3 : goal.returns-in-3
-returns-in-3 c = quick_number c.requires c.in-3.is c.load_local.ensures c.quick_next-in-3.ensures
+pub returns-in-PopJumpIfFalse : goal.returns-in-PopJumpIfFalse
+returns-in-PopJumpIfFalse c = quick_number c.requires (named_as c.try_from.ensures c.in-Ok.is ∙ ap opcode_number c.in-PopJumpIfFalse.is) c.pop_jump_if-in-PopJumpIfFalse.ensures c.quick_next-in-PopJumpIfFalse.ensures
 
-pub returns-in-6 : goal.returns-in-6
-returns-in-6 c = quick_made c.requires c.in-6.is c.quick_const.ensures
+pub returns-in-Jump : goal.returns-in-Jump
+returns-in-Jump c = quick_jump c.requires (named_as c.try_from.ensures c.in-Ok.is ∙ ap opcode_number c.in-Jump.is) (omega arith) (omega arith) c.jump.ensures c.quick_next-in-Jump.ensures
 
-pub returns-in-7 : goal.returns-in-7
-returns-in-7 c = quick_number c.requires c.in-7.is c.store_local.ensures c.quick_next-in-7.ensures
+pub returns-in-JumpBackEdge : goal.returns-in-JumpBackEdge
+returns-in-JumpBackEdge c = quick_jump c.requires (named_as c.try_from.ensures c.in-Ok.is ∙ ap opcode_number c.in-JumpBackEdge.is) (omega arith) (omega arith) c.jump-in-JumpBackEdge.ensures c.quick_next-in-JumpBackEdge.ensures
 
-pub returns-in-19 : goal.returns-in-19
-returns-in-19 c = quick_number c.requires c.in-19.is c.arithmetic.ensures c.quick_next-in-19.ensures
+pub returns-in-LoadLocal : goal.returns-in-LoadLocal
+returns-in-LoadLocal c = quick_number c.requires (named_as c.try_from.ensures c.in-Ok.is ∙ ap opcode_number c.in-LoadLocal.is) c.load_local.ensures c.quick_next-in-LoadLocal.ensures
 
-pub returns-in-20 : goal.returns-in-20
-returns-in-20 c = quick_number c.requires c.in-20.is c.arithmetic-in-20.ensures c.quick_next-in-20.ensures
+pub returns-in-StoreLocal : goal.returns-in-StoreLocal
+returns-in-StoreLocal c = quick_number c.requires (named_as c.try_from.ensures c.in-Ok.is ∙ ap opcode_number c.in-StoreLocal.is) c.store_local.ensures c.quick_next-in-StoreLocal.ensures
 
-pub returns-in-21 : goal.returns-in-21
-returns-in-21 c = quick_number c.requires c.in-21.is c.arithmetic-in-21.ensures c.quick_next-in-21.ensures
-
-pub returns-in-26 : goal.returns-in-26
-returns-in-26 c = quick_number c.requires c.in-26.is c.arithmetic-in-26.ensures c.quick_next-in-26.ensures
-
-pub returns-in-27 : goal.returns-in-27
-returns-in-27 c = quick_number c.requires c.in-27.is c.arithmetic-in-27.ensures c.quick_next-in-27.ensures
-
-pub returns-in-28 : goal.returns-in-28
-returns-in-28 c = quick_number c.requires c.in-28.is c.arithmetic-in-28.ensures c.quick_next-in-28.ensures
-
-pub returns-in-29 : goal.returns-in-29
-returns-in-29 c = quick_number c.requires c.in-29.is c.arithmetic-in-29.ensures c.quick_next-in-29.ensures
-
-pub returns-in-40 : goal.returns-in-40
-returns-in-40 c = quick_jump c.requires c.in-40.is c.jump.ensures c.quick_next-in-40.ensures
-
-pub returns-in-41 : goal.returns-in-41
-returns-in-41 c = quick_jump c.requires c.in-41.is c.jump-in-41.ensures c.quick_next-in-41.ensures
-
-pub returns-in-45 : goal.returns-in-45
-returns-in-45 c = quick_number c.requires c.in-45.is c.pop_jump_if.ensures c.quick_next-in-45.ensures
-
-pub returns-in-46 : goal.returns-in-46
-returns-in-46 c = quick_number c.requires c.in-46.is c.pop_jump_if-in-46.ensures c.quick_next-in-46.ensures
-
-pub returns-in_default : goal.returns-in_default
-returns-in_default c = quick_other
+pub returns-in-LoadConst : goal.returns-in-LoadConst
+returns-in-LoadConst c = quick_made c.requires (named_as c.try_from.ensures c.in-Ok.is ∙ ap opcode_number c.in-LoadConst.is) c.quick_const.ensures
