@@ -7,12 +7,38 @@ ghost use Rattle.cells.specs.Cells.{room, cells, Writes};
 
 use cells::Cell;
 
-// The n cells of `from` that begin at `start` go to `to` at `at`.
+// The n cells of `from` that begin at `start` go to `to` at `at`. Here and below cell by cell: the slice's own
+// `copy_from_slice` and `copy_within` have the archive for C need `memcpy` and `memmove` from outside.
 pub fn copy(to: &mut [u8], at: usize, from: &[u8], start: usize, n: usize)
     requires { (at + n ≤ room to.old) × (start + n ≤ room from.now) }
     ensures { Writes to.old (paste (cells to.old) at (drop start (cells from.now)) n) to.new }
 {
-    to[16 * at..16 * (at + n)].copy_from_slice(&from[16 * start..16 * (start + n)]);
+    for copied in 0..n {
+        let c = cells::get(from, start + copied);
+        cells::put(to, at + copied, c);
+    }
+}
+
+// n cells go down within one slice: the first goes first, so that none is overwritten before it is read.
+pub fn lower(s: &mut [u8], to: usize, from: usize, n: usize)
+    requires { (to ≤ from) × (from + n ≤ room s.old) }
+    ensures { Writes s.old (paste (cells s.old) to (drop from (cells s.old)) n) s.new }
+{
+    for moved in 0..n {
+        let c = cells::get(s, from + moved);
+        cells::put(s, to + moved, c);
+    }
+}
+
+// n cells go up within one slice: the last goes first.
+pub fn raise(s: &mut [u8], to: usize, from: usize, n: usize)
+    requires { (from ≤ to) × (to + n ≤ room s.old) }
+    ensures { Writes s.old (paste (cells s.old) to (drop from (cells s.old)) n) s.new }
+{
+    for left in (0..n).rev() {
+        let c = cells::get(s, from + left);
+        cells::put(s, to + left, c);
+    }
 }
 
 // n cells go from `from` to `to` within one slice, wherever the two lie.
@@ -20,7 +46,11 @@ pub fn copy_within(s: &mut [u8], to: usize, from: usize, n: usize)
     requires { (to + n ≤ room s.old) × (from + n ≤ room s.old) }
     ensures { Writes s.old (paste (cells s.old) to (drop from (cells s.old)) n) s.new }
 {
-    s.copy_within(16 * from..16 * (from + n), 16 * to);
+    if to <= from {
+        lower(s, to, from, n);
+    } else {
+        raise(s, to, from, n);
+    }
 }
 
 // The n cells at `at` become c.

@@ -94,6 +94,9 @@ module _ {base j list : ℕ} {p : Params} {old : List ℕ} {t : ℕ} (q : t ≡ 
     }
 
 -- ---- There is room for each move
+pub head_fits_lem : {Q : Frame → Type 0} {base n list : ℕ} {p : Params} {old : List ℕ} → EnterableWhere Q base p n list old → base + 6 ≤ room old
+head_fits_lem o = omega (arith, o.fits)
+
 module _ {base j n list : ℕ} {p : Params} {old : List ℕ} {g : Running} (o : LuciaEnterable base j p n list old) (q : g ≡ opened (cells old) base) where
   -- a Lucia frame keeps all
   pub lucia_kept : g ≡ kept_in (cells old) base

@@ -2,6 +2,7 @@
 use Rattle.std.specs.Prelude.{◌≡◌, refl, List, ◌⊎◌, ℕ, zero, suc, ◌+◌, ◌*◌, ◌/◌, ◌%◌, ◌-◌, ◌^◌, ◌<◌, ◌≤◌, length, get_or, set, drop}
 use Rattle.std.proofs.Common.{sym, ap, ◌∙◌, inl, inr, ⊎_elim, zero-add, arith, length-set, length-drop, ext_get_or, get_or-set_same, get_or-set_other, get_or-drop}
 use Rattle.std.proofs.Math.Decide.{dec_lt}
+use Rattle.std.proofs.Math.ListN.{get_or-eq_default}
 use Rattle.std.proofs.lemmas.Bool.{cases_order}
 use Rattle.cells.specs.Le.{le_at, put_at, limit, Bytes, length_put, get_or_put, le_same, le_one, le_put_same, le_put_other, le_bound, le_join}
 use Rattle.cells.specs.Cells.{null, room, cell_at, put_cell, cells_from, cells, rest, Sound, Writes, set_tag, set_number, set_payload}
@@ -122,6 +123,9 @@ module _ (s : List ℕ) (i x : ℕ) (h : i < room s) where
       writes_cell s (put_at k s at x) i (f (get_or (cells s) i null)) (length_put k s at x) h
       (λ j o. get_or_put k s at x j (⊎_elim (λ l. inl (omega arith)) (λ l. inr (omega arith)) o)) (e ∙ ap f (sym (cells_get s i h)))
 
+  pub writes_tag : x < 2 ^ 32 → Writes s (set (cells s) i (set_tag (get_or (cells s) i null) x)) (put_at 4 s (16 * i) x)
+  writes_tag lt = writes_field 4 (16 * i) (λ c. set_tag c x) (omega arith) (omega arith) (tag_put lt)
+
   pub writes_number : x < 2 ^ 32 → Writes s (set (cells s) i (set_number (get_or (cells s) i null) x)) (put_at 4 s (16 * i + 4) x)
   writes_number lt = writes_field 4 (16 * i + 4) (λ c. set_number c x) (omega arith) (omega arith) (number_put lt)
 
@@ -148,10 +152,35 @@ writes_put s i c h ok =
     (payload_put b i c.payload hb ok.payload ∙ ap (λ (d : Cell). set_payload d c.payload)
     (number_put a i c.number ha ok.number ∙ ap (λ (d : Cell). set_number d c.number) (tag_put s i c.tag h ok.tag)))
 
+-- ---- after a write of one cell
+module _ {s t : List ℕ} (i : ℕ) (c : Cell) (h : i < room s) (w : Writes s (set (cells s) i c) t) where
+  pub reads_same : get_or (cells t) i null ≡ c
+  reads_same = rw w.cells (get_or-set_same (cells s) i c null (rw length_cells h))
+
+  pub reads_other : (k : ℕ) → (k ≡ i → ⊥) → get_or (cells t) k null ≡ get_or (cells s) k null
+  reads_other k ne = rw w.cells (get_or-set_other (cells s) i k c null ne)
+
+-- ---- what any write leaves
+pub writes_none : (s : List ℕ) → Writes s (cells s) s
+writes_none s = record { cells = refl; rest = refl; len = refl }
+
+pub writes_length : {s t : List ℕ} {l : List Cell} → Writes s l t → length l ≡ room s
+writes_length {s} {t} w = ap length (sym w.cells) ∙ length_cells t ∙ ap (λ (n : ℕ). n / 16) w.len
+
 -- ---- every cell of bytes is sound
+sound_null : Sound null
+sound_null = record { tag = omega arith; number = omega arith; payload = omega arith }
+
 pub sound_at : (s : List ℕ) (i : ℕ) → Bytes s → Sound (cell_at s i)
 unfolding cell_at limit
 sound_at s i p = record { tag = le_bound 4 s (16 * i) p; number = le_bound 4 s (16 * i + 4) p; payload = le_bound 8 s (16 * i + 8) p }
+
+pub sound_cells : (s : List ℕ) (i : ℕ) → Bytes s → Sound (get_or (cells s) i null)
+sound_cells s i p = by (dec_lt i (room s))
+  where
+    by : Dec (i < room s) → Sound (get_or (cells s) i null)
+    by (yes h) = rw (cells_get s i h) (sound_at s i p)
+    by (no h) = rw (get_or-eq_default (cells s) null {n = i} (rw length_cells (omega arith))) sound_null
 
 -- ---- equal cells and equal rest, equal bytes
 -- a cell as one number
@@ -180,3 +209,7 @@ same_bytes s t p q len e r = ext_get_or 0 s t len (λ j lt. by j lt (dec_lt j (1
         let f : drop (16 * room s) s ≡ drop (16 * room s) t = r ∙ ap (λ (n : ℕ). drop (16 * (n / 16)) t) (sym len) in
         rw d at (sym (get_or-drop (16 * room s) s (j - 16 * room s) 0) ∙ ap (λ (l : List ℕ). get_or l (j - 16 * room s) 0) f
         ∙ get_or-drop (16 * room s) t (j - 16 * room s) 0)
+
+-- the cells are as they were, so the bytes are
+pub writes_same : {s t : List ℕ} → Bytes s → Bytes t → Writes s (cells s) t → t ≡ s
+writes_same {s} {t} p q w = same_bytes t s q p w.len w.cells w.rest

@@ -1,7 +1,7 @@
 -- A block of cells is moved: `paste d to x n` of lib.Seq is d with the first n of x in the place of those at `to`.
 -- What it is, and what stands where in it.
 use Rattle.std.specs.Prelude.{◌≡◌, List, ◌++◌, ℕ, ◌+◌, ◌-◌, ◌<◌, ◌≤◌, length, get_or, take, drop}
-use Rattle.std.proofs.Common.{sym, ap, ◌∙◌, append_assoc, arith, take_at, drop_at, drop-drop, get_or-drop, get_or-take, length-take-le}
+use Rattle.std.proofs.Common.{sym, ap, ◌∙◌, append_assoc, arith, take_at, drop_at, drop-drop, get_or-drop, get_or-take, get_or-append-add, length-take-le}
 use Rattle.std.proofs.Math.ListN.{get_or-append}
 use Rattle.std.proofs.Math.Seq.{paste}
 use Rattle.std.proofs.lemmas.List.Edits.{drop-paste}
@@ -16,6 +16,14 @@ module _ (d : List Cell) (to : ℕ) (x : List Cell) (n : ℕ) where
   paste_below k h lt =
       let l : k < length (take to d) = rw (length-take-le to d h) lt in
       rw paste_is (get_or-append (take to d) _ null k l ∙ get_or-take to d k null lt)
+
+  pub paste_inside : (k : ℕ) → to ≤ length d → n ≤ length x → k < n → get_or (paste d to x n) (to + k) null ≡ get_or x k null
+  paste_inside k h l lt =
+      let t : length (take to d) ≡ to = length-take-le to d h in
+      let m : k < length (take n x) = rw (length-take-le n x l) lt in
+      rw paste_is
+      (ap (λ (i : ℕ). get_or (take to d ++ (take n x ++ drop (to + n) d)) (i + k) null) (sym t) ∙ get_or-append-add (take to d) _ k null
+      ∙ get_or-append (take n x) _ null k m ∙ get_or-take n x k null lt)
 
   pub paste_above : (k : ℕ) → to ≤ length d → n ≤ length x → to + n ≤ k → get_or (paste d to x n) k null ≡ get_or d k null
   paste_above k h l le =

@@ -1,10 +1,12 @@
 -- What every call but a load begins with: the refusals 6, 1, 2 and 4, 3, 10 and 7, in this order; or the program and the world that memory holds.
-use Rattle.std.specs.Prelude.{◌≡◌, List, ℕ, ◌*◌, length, get_or, take, eqb, Result, Ok, Err}
+use Rattle.std.specs.Prelude.{◌≡◌, List, ℕ, ◌*◌, length, get_or, take, replicate, eqb, Result, Ok, Err}
 use Rattle.cells.specs.Cells.{null, cells}
 use Rattle.cells.specs.declared.Cell.{Cell}
 use Rattle.image.specs.Records.{if?, Answer, refused, accepted, then}
 use Rattle.image.specs.Program.{Code}
 use Rattle.image.specs.Image.{parse}
+use Rattle.image.specs.Layout.{no_row}
+use Rattle.image.specs.declared.Row.{Row}
 use Rattle.layout.specs.Reads.{Low?}
 use Rattle.layout.specs.declared.Sizes.{Sizes}
 use Rattle.refusals.specs.Refusals.{number}
@@ -51,3 +53,7 @@ saying image state live store (Ok h) rows constants inner =
 pub record Enters (image state live store : List ℕ) (r : Result Sizes Refusal) (rows constants inner : List ℕ) : Type 0 where
   pub does : saying image state live store r rows constants inner ≡ entry image state live store
   pub low : Low? r
+
+-- the reader's tables before anything is read: 256 rows of no code, and numbers 0
+unfoldable pub HoldNothing : List Row → List ℕ → List ℕ → Type 0
+HoldNothing t p n = (t ≡ replicate 256 no_row) × (p ≡ replicate 10923 0) × (n ≡ replicate 256 0)

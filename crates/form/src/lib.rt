@@ -10,7 +10,7 @@ ghost use Rattle.scan.specs.Tables.{program_in, program_of, cells_of};
 ghost use Rattle.results.specs.Results.{kind_number};
 ghost use Rattle.layout.specs.Reads.{Low};
 ghost use Rattle.reader.specs.Reads.{Reads};
-ghost use Rattle.form.specs.Entry.{held_answer, Enters};
+ghost use Rattle.form.specs.Entry.{held_answer, Enters, HoldNothing};
 ghost use Rattle.image.specs.Layout.{flat};
 ghost use Rattle.refusals.specs.Refusals.{number_of};
 
@@ -288,7 +288,11 @@ pub struct Tables {
 }
 
 impl Tables {
-    pub fn new() -> Tables {
+    // Tables that hold nothing yet: each row is that of no code, each number 0.
+    #[tactic(auto, unfolding(crate::specs::Entry::HoldNothing))]
+    pub fn new() -> Tables
+        ensures { HoldNothing result.rows result.constants result.inner }
+    {
         Tables {
             rows: [Row::NONE; 256],
             constants: [0; 10923],

@@ -1,14 +1,15 @@
 -- Laws of fuel: an i32 stays an i32, and two charges are one of the sum.
-use Rattle.std.specs.Prelude.{◌≡◌, Bool, true, false, cond, ℕ, zero, suc, ◌+◌, ◌-◌, ◌<◌, ◌≤◌, ltb, ℤ, pos, negsuc, neg_ℤ, ◌+ℤ◌}
+use Rattle.std.specs.Prelude.{◌≡◌, refl, Bool, true, false, cond, ℕ, zero, suc, ◌+◌, ◌-◌, ◌<◌, ◌≤◌, ltb, ℤ, pos, negsuc, neg_ℤ, ◌+ℤ◌}
 use Rattle.std.proofs.Common.{sym, ap, ◌∙◌, arith, le-leb, SFits}
 use Rattle.std.proofs.Math.Decide.{dec_le}
 use Rattle.std.proofs.Math.IntN.{sub_ℕ, +ℤ_idr, +ℤ_assoc, neg_ℤ-+ℤ}
 use Rattle.std.proofs.lemmas.Bool.{lt-leb}
+use Rattle.std.specs.Int.Signed.{le_z}
 use Rattle.std.specs.Int.{w32, saturate_signed, int_min}
 use Rattle.std.specs.Prelude.{min as least}
 use Rattle.std.proofs.lemmas.Int.{ints}
 use Rattle.fuel.specs.declared.Fuel.{Fuel}
-use Rattle.fuel.specs.Fuels.{most, saturate, min, set_remaining, adjust, consume}
+use Rattle.fuel.specs.Fuels.{most, saturate, min, set_remaining, adjust, consume, refill}
 
 pub most_low : (n : ℕ) → n ≤ 2147483647 → most n ≡ n
 unfolding most
@@ -57,6 +58,21 @@ saturate_fits (negsuc n) = record { sfits = most_less n }
 
 pub adjust_fits : (f : Fuel) (x : ℤ) → SFits w32 (adjust f x).fuel
 adjust_fits f x = saturate_fits (f.fuel +ℤ x)
+
+pub consume_fits : (f : Fuel) (x : ℤ) → SFits w32 (consume f x).fuel
+consume_fits f x = adjust_fits f (saturate (neg_ℤ x))
+
+pub refill_fits : (f : Fuel) (x max : ℤ) → SFits w32 max → SFits w32 (refill f x max).fuel
+unfolding min
+refill_fits f x max m = by (le_z (saturate (f.fuel +ℤ x)) max)
+  where
+    by : (t : Bool) → SFits w32 (cond t (saturate (f.fuel +ℤ x)) max)
+    by true = saturate_fits (f.fuel +ℤ x)
+    by false = m
+
+-- the mark is kept
+pub consume_mark : (f : Fuel) (x : ℤ) → (consume f x).interrupted ≡ f.interrupted
+consume_mark f x = refl
 
 -- not above the greatest i32
 abbrev Low : ℤ → Type 0

@@ -3,7 +3,7 @@ use Rattle.std.specs.Prelude.{◌≡◌, refl, not, Ok, Err, List, ℕ, eqb, len
 use Rattle.std.proofs.Common.{sym, ap, ◌∙◌, subst, inr, arith, eq-eqb, ne_eqb, SFits, to_z, of_z, to_z-of_z}
 use Rattle.std.proofs.Math.Decide.{ℕ_discrete}
 use Rattle.std.specs.Int.{w32}
-use Rattle.std.proofs.Math.Facts.{of_z-to_z, Fits-of_z}
+use Rattle.std.proofs.Math.Facts.{of_z-to_z, Fits-of_z, sfits_to_z}
 use Rattle.cells.specs.Le.{le_at, put_at, limit, Bytes, length_put, get_or_put, le_put_same, le_bound, put_le}
 use Rattle.fuel.specs.declared.Fuel.{Fuel}
 use Rattle.refusals.specs.declared.Refusal.TheVariants.{BadLoan}
@@ -27,6 +27,11 @@ module _ (s : List ℕ) (else : length s ≡ 5 → ⊥) where
   pub write_other : (f : Fuel) → write s f ≡ s
   unfolding write
   write_other f = simp (ne_eqb _ _ else)
+
+-- the number read is an i32
+pub held_fits : (s : List ℕ) → Bytes s → SFits w32 (held s).fuel
+unfolding limit
+held_fits s bytes = sfits_to_z {w = w32} (record { fits = le_bound 4 s 0 bytes })
 
 -- what holds of both cases of a write
 on_write : (P : List ℕ → Type 0) (s : List ℕ) (f : Fuel) → (length s ≡ 5 → P (put_at 4 s 0 (of_z w32 f.fuel))) → P s → P (write s f)

@@ -81,6 +81,9 @@ module _ {P : Program} {frames : ℕ} {s : Slice} {state live store starts args 
   pub finish_ends : end_of s.g < 18446744073709551616
   finish_ends = omega (arith, at_end there.at, there.at.inside.room, f.around.small)
 
+  pub finish_ticks : {h : registers.Running} {x : Error} → s.end ≡ Throws h x → 0 < s.ticks
+  finish_ticks e = (subst (λ (n : End). Ended P f.sizes f.ticks f.begun f.machine f.handle f.code s n (cells state) (cells live) (cells store)) e f.ended).1
+
   pub finish_fails : {h : registers.Running} {x : Error} → s.end ≡ Throws h x → Failable P frames s.used s.g h x state live store starts
   unfolding finish_busy busy_at
   finish_fails e =
@@ -112,6 +115,16 @@ module _ {P : Program} {frames : ℕ} {s : Slice} {state live store starts args 
         len = f.len;
         values = f.values;
       }
+
+  pub finish_left : {k : Closing} {x : ℕ} → s.end ≡ Closes k x → 0 < s.ticks
+  finish_left e = (subst (λ (n : End). Ended P f.sizes f.ticks f.begun f.machine f.handle f.code s n (cells state) (cells live) (cells store)) e f.ended).1
+
+module _ {P : Program} {frames : ℕ} {s : Slice} {state live store starts args : List ℕ} (f : Finishable P frames s state live store starts args) where
+  pub finish_throws : {h : registers.Running} {x : Error} → s.end ≡ Throws h x → (0 ≤ 64) × (0 < s.ticks)
+  finish_throws e = (omega arith, finish_ticks f e)
+
+  pub finish_charges : {k : Closing} {x : ℕ} → s.end ≡ Closes k x → (s.left ≤ 64) × (0 < s.ticks)
+  finish_charges e = (f.low, finish_left f e)
 
 -- ---- A group
 module _ {P : Program} {c : Counts} {left : ℕ} {state live store starts args : List ℕ} (f : Groupable P c left state live store starts args) where

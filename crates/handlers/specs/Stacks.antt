@@ -145,7 +145,7 @@ module _ (P : Program) (e : Cell) where
           has : Finds P e (written r.frame).handlers j
           has = finds _ _ top
 
-        left_in : j < g.handlers → (F : List Frame) → length F ≡ n → Under F L starts → SearchedIn P e F (i - 1) j
+        pub left_in : j < g.handlers → (F : List Frame) → length F ≡ n → Under F L starts → SearchedIn P e F (i - 1) j
         unfolding find onto
         left_in h F q u =
             let o : Reached F L starts (i - 1) = r F q u in
@@ -163,7 +163,7 @@ module _ (P : Program) (e : Cell) where
               first = w;
             }
 
-        left_next : g.handlers ≤ j → Left n L starts (i - 1)
+        pub left_next : g.handlers ≤ j → Left n L starts (i - 1)
         unfolding find
         left_next h = record {
           lies = s.lies;

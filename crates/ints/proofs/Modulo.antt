@@ -1,8 +1,8 @@
--- Numbers modulo any m, and their opposites.
+-- Numbers modulo any m: opposites, and a product by halves.
 use Rattle.std.specs.Prelude.{◌≡◌, ℕ, ◌+◌, ◌-◌, ◌*◌, ◌/◌, ◌%◌, ◌<◌}
 use Rattle.std.proofs.Common.{sym, ◌∙◌}
 use Rattle.std.proofs.Math.Path.{ap}
-use Rattle.std.proofs.Math.Nat.{add-mod-mod, mod-mod, mod-lt, zero-mod, mod-add-div, add-mul-mod_self_left, mul-mod_right}
+use Rattle.std.proofs.Math.Nat.{add-mod, mod-add-mod, add-mod-mod, mod-mod, mod-lt, zero-mod, mod-add-div, add-mul-mod_self_left, mul-mod_right}
 use Rattle.std.proofs.lemmas.Nat.{mul-mod_first}
 use native.Mathlib.Omega.{arith}
 use Rattle.ints.specs.Modulo.{opposite}
@@ -51,3 +51,19 @@ module _ (m : ℕ) (some : 0 < m) where
   pub opposite_times : (a b : ℕ) → opposite m a * b % m ≡ opposite m (a * b)
   opposite_times a b =
       is_opposite (opposite m a * b) (a * b) (ap (λ (k : ℕ). k % m) (omega arith) ∙ none_times m (a + opposite m a) b (opposite_none a))
+
+  -- what with b makes a is their difference
+  pub is_difference : (r a b : ℕ) → (r + b) % m ≡ a → r % m ≡ (a + opposite m b) % m
+  is_difference r a b e =
+      sym (none_plus m r (b + opposite m b) (opposite_none b))
+      ∙ ap (λ (k : ℕ). k % m) (omega arith) ∙ sym (mod-add-mod (r + b) m (opposite m b)) ∙ ap (λ (k : ℕ). (k + opposite m b) % m) e
+
+-- a product by halves, w being the number of patterns of a half
+pub by_halves : (w a b : ℕ) → a * b % (w * w) ≡ ((a % w) * (b % w) + ((a / w) * (b % w) % w + (a % w) * (b / w) % w) % w * w) % (w * w)
+by_halves w a b =
+    let s : ℕ = (a / w) * (b % w) + (a % w) * (b / w) in
+    let c : ((a / w) * (b % w) % w + (a % w) * (b / w) % w) % w ≡ s % w = sym (add-mod ((a / w) * (b % w)) ((a % w) * (b / w)) w) in
+    let e : (a % w + w * (a / w)) * (b % w + w * (b / w)) ≡ a * b = λ i. mod-add-div a w i * mod-add-div b w i in
+    let d : (s % w + w * (s / w)) * w ≡ s * w = ap (λ (n : ℕ). n * w) (mod-add-div s w) in
+    same (w * w) (a * b) ((a % w) * (b % w) + s % w * w) 0 (s / w + (a / w) * (b / w)) (omega (arith, e, d))
+    ∙ ap (λ (n : ℕ). ((a % w) * (b % w) + n * w) % (w * w)) (sym c)

@@ -12,7 +12,7 @@ use Rattle.cells.specs.CellsLaws.{length_cells, writes_two}
 use Rattle.cells.specs.Moves.{paste_is, paste_at}
 use Rattle.cells.specs.declared.Cell.{Cell}
 use Rattle.image.specs.Records.{if?}
-use Rattle.machine.specs.Values.{cell}
+use Rattle.machine.specs.Values.{cell, closure_at}
 use Rattle.machine.specs.Machine.{Handler, Frame, lucia, host, effect_callback, frames_cost, give, receive}
 use Rattle.memory.specs.Layout.{Written, written, handler_cells, frame_cells, flat}
 use Rattle.memory.specs.Lists.{written_cost}
@@ -149,6 +149,12 @@ receives {v} {base} {old} {mid} {h = h} q t s = gets_by base clear_handlers (rec
 
 -- there is room where the machine's rule says so
 module _ {f : Frame} {below : List Frame} {L : List Cell} (o : Live (f ∷ below) L) (base : ℕ) (b : base ≡ length (flat below)) (v : Cell) where
+  pub give_fits : frames_cost (give v f ∷ below) ≤ length L → end_of (kept_in L base) < length L
+  unfolding frames_cost
+  give_fits le =
+      let t = kept_opened base (live_stands o) b in
+      omega (arith, ap (λ (w : Written). written_cost w) (give_written v f) ∙ cost_written (give v f), length_flat below, t.counts.locals, t.counts.handlers, t.counts.stack)
+
   pub receive_fits : frames_cost (receive v f ∷ below) ≤ length L
       → (end_of (kept_in L base) ≤ length L) × (end_of (with_counts 0 (kept_in L base).stack (kept_in L base)) < length L)
   unfolding frames_cost
@@ -167,6 +173,18 @@ pub record Starts (w : Written) (at : ℕ) (old new : List ℕ) : Type 0 where
   pub stands : (pre after : List Cell) → cells old ≡ pre ++ after → at ≡ length pre → Stands w pre (cells new)
   pub rest : rest new ≡ rest old
   pub len : length new ≡ length old
+
+pub new_lucia : {below : List Frame} {L : List Cell} (h k : ℕ) (args : List Cell) → Stands (new_written 64 (closure_at h) k args) (flat below) L → Live (lucia h 0 (replicate k null) (reverse args) [] ∷ below) L
+unfolding written
+new_lucia h k args o = stands_live o
+
+pub new_host : {below : List Frame} {L : List Cell} (n u : ℕ) (args : List Cell) → Stands (new_written 65 (cell 39 n u) 0 args) (flat below) L → Live (host n u (reverse args) [] ∷ below) L
+unfolding written
+new_host n u args o = stands_live o
+
+pub new_effect : {below : List Frame} {L : List Cell} (e : Cell) (args : List Cell) → Stands (new_written 66 e 0 args) (flat below) L → Live (effect_callback e (reverse args) [] ∷ below) L
+unfolding written
+new_effect e args o = stands_live o
 
 -- the cells of a new frame: arguments first, wherever they stand, then the head, then the nulls
 module _ (L pre after : List Cell) (at k from n kind : ℕ) (subject : Cell) (i : L ≡ pre ++ after) (e : at ≡ length pre) (fits : at + 6 + k + n ≤ length L) (there : from + n ≤ length L) where

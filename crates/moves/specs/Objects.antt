@@ -67,6 +67,13 @@ module _ {s : List Object} {S : List Cell} (L : List Cell) (at from n : ℕ) (h 
       let m : length X ≡ n = length-take-le n (drop from L) (simp length-drop (omega arith)) in
       made_stored (list X) L at 129 0 from n h e lt (ap (λ (k : ℕ). cell 129 0 k ∷ X) m)
 
+  pub closure_stored : (c : ℕ) → from + n ≤ length L → Stored (s ++ (closure c (take n (drop from L)) ∷ [])) (made S at 128 c L from n)
+  unfolding object_cells
+  closure_stored c there =
+      let X : List Cell = take n (drop from L) in
+      let m : length X ≡ n = length-take-le n (drop from L) (simp length-drop (omega arith)) in
+      made_stored (closure c X) L at 128 c from n h e lt (ap (λ (k : ℕ). cell 128 c k ∷ X) m)
+
   -- the frames above become a continuation
   pub captured : (above below : List Frame) → Live (above ++ below) L → from ≡ length (flat below) → n ≡ length (flat above)
       → Stored (s ++ (continuation above ∷ [])) (made S at 130 (length above) L from n)

@@ -165,6 +165,35 @@ module _ (P : Program) (g : registers.Running) (o : BinaryOperator) (x : ℕ) (o
       (λ z m r S i. binary_action P m r x o ∙ two_some r.stack _ (omega (arith, i.runs.counts.stack))
       ∙ (λ j. takes (computed r (drop 2 r.stack) (binary P (binary_number o) (sym (t.0 _ _ i.runs) j) (sym (s.0 _ _ i.runs) j)))))
 
+-- ---- `binary` at the operators that take two Ints, whatever the program
+-- only `Eq` and `Ne` look into the program
+arithmetic_same : (P Q : Program) (o : BinaryOperator) (x y : Cell) → (binary_number o ≡ 24 → ⊥) → (binary_number o ≡ 25 → ⊥) → binary P (binary_number o) x y ≡ binary Q (binary_number o) x y
+unfolding binary
+arithmetic_same P Q b.Add x y n m = refl
+arithmetic_same P Q b.Sub x y n m = refl
+arithmetic_same P Q b.Mul x y n m = refl
+arithmetic_same P Q b.Div x y n m = refl
+arithmetic_same P Q b.Rem x y n m = refl
+arithmetic_same P Q b.Eq x y n m = absurd (n refl)
+arithmetic_same P Q b.Ne x y n m = absurd (m refl)
+arithmetic_same P Q b.Gt x y n m = refl
+arithmetic_same P Q b.Ge x y n m = refl
+arithmetic_same P Q b.Lt x y n m = refl
+arithmetic_same P Q b.Le x y n m = refl
+
+pub arithmetic_gives : (P : Program) (o : BinaryOperator) (x y : Cell) {c : Result Cell Error} → (binary_number o ≡ 24 → ⊥) × (binary_number o ≡ 25 → ⊥) → c ≡ computed_of (binary P (binary_number o) x y)
+    → (Q : Program) → c ≡ computed_of (binary Q (binary_number o) x y)
+arithmetic_gives P o x y n e Q = e ∙ ap (λ (d : v.Computed). computed_of d) (arithmetic_same P Q o x y n.0 n.1)
+
+module _ (g : registers.Running) (o : BinaryOperator) (x : ℕ) (old : List ℕ) where
+  pub arithmetic_stops : g.stack < 2 → (P : Program) → Does P (binary_number o) x g (Err FewValues) old old
+  arithmetic_stops l P = binary_stops P g o x old l
+
+  pub arithmetic_does : {a b : Cell} {c : Result Cell Error} {w : Next} {new : List ℕ} → 2 ≤ g.stack → ((f : Written) (pre : List Cell) → Top f pre g (cells old) → b ≡ get_or f.stack 0 null) × Sound b
+      → ((f : Written) (pre : List Cell) → Top f pre g (cells old) → a ≡ get_or f.stack 1 null) × Sound a → ((P : Program) → c ≡ computed_of (binary P (binary_number o) a b)) → ((P : Program) → Operates P g 2 c w old new)
+      → (P : Program) → Does P (binary_number o) x g (Ok w) old new
+  arithmetic_does l s t q k P = binary_does P g o x old l s t (q P) k
+
 -- ---- `type_check`
 module _ (g : registers.Running) (x : ℕ) (old : List ℕ) where
   pub check_stops : g.stack ≡ 0 → (P : Program) → Does P 30 x g (Err FewValues) old old

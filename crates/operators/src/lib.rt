@@ -190,7 +190,7 @@ pub fn unary(live: &mut [u8], g: Running, op: UnaryOperator, x: u32) -> Result<N
     Ok(computed(live, g, 1, unary_of(op, v)))
 }
 
-// 19 `Add` to 29 `Le`: the first operand lies under the second.
+// 19 `Add` to 29 `Le`: the first operand lies under the second. All but `Eq` and `Ne` need nothing of the program, so what they do is the same for each.
 pub fn binary(
     program: &lookups::Program,
     live: &mut [u8],
@@ -199,7 +199,8 @@ pub fn binary(
     x: u32,
 ) -> Result<Next, Refusal>
     requires { end_of g ≤ room live.old }
-    ensures { Does (program_of program.now) (binary_number op) x g result live.old live.new }
+    ensures lent { Does (program_of program.now) (binary_number op) x g result live.old live.new }
+    ensures arithmetic { (binary_number op ≡ 24 → ⊥) × (binary_number op ≡ 25 → ⊥) → (P : Program) → Does P (binary_number op) x g result live.old live.new }
 {
     if g.stack < 2 {
         return Err(Refusal::FewValues);

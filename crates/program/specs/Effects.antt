@@ -1,13 +1,34 @@
 -- Laws of equal texts and of equal effects.
 use Rattle.std.specs.Prelude.{◌≡◌, refl, Bool, true, false, ℕ, ◌<◌, ◌≤◌, eqb, ◌&&◌}
+use native.Mathlib.Omega.{arith}
 use Rattle.std.specs.Cmp.Lexicographic.{pointwise}
 use Rattle.std.proofs.Math.Path.{sym}
 use Rattle.std.proofs.Common.{◌∙◌}
 use mathlib.Core.List.{List, [], ◌∷◌}
-use borrow.Author.Tests.{le-leb, lt-leb, eq-eqb, ne_eqb}
+use borrow.Author.Tests.{le-leb, lt-leb, eq-eqb, ne_eqb, eqb-true}
 use Rattle.cells.specs.Le.{le_at}
 use Rattle.image.specs.Records.{both}
 use Rattle.image.specs.Effects.{same, name, same_effect}
+
+never : {A : Type 0} → false ≡ true → A
+never e = absurd (let z : ◌≡◌ {A = ℕ} 0 1 = cc in omega arith)
+
+-- `same` says whether two texts are equal
+pub same_true : (s t : List ℕ) → same s t ≡ true → s ≡ t
+unfolding same both
+same_true [] [] h = refl
+same_true [] (y ∷ t) h = never h
+same_true (x ∷ s) [] h = never h
+same_true (x ∷ s) (y ∷ t) h = by (same_true s t) (eqb x y) refl h
+  where
+    by : (same s t ≡ true → s ≡ t) → (b : Bool) → eqb x y ≡ b → both b (same s t) ≡ true → x ∷ s ≡ y ∷ t
+    by ih true e k = rw (eqb-true x y e, ih k)
+    by ih false e k = never k
+
+pub same_refl : (s : List ℕ) → same s s ≡ true
+unfolding same both
+same_refl [] = refl
+same_refl (x ∷ s) = simp (eq-eqb x x refl) (same_refl s)
 
 -- what the library's `==` answers
 and_both : {u v : Bool} (b : Bool) → u ≡ v → b && u ≡ both b v

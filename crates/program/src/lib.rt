@@ -60,7 +60,6 @@ pub fn rest(s: &[u8], at: usize) -> &[u8]
 }
 
 // The n bytes at a place, as many of them as are there.
-// With `get` or `min` in place of these tests the reader goes over opcodes at three quarters of the speed.
 #[tactic(auto, using(crate::specs::Parts::part_past, crate::specs::Parts::part_end, crate::specs::Parts::part_inside))]
 pub fn part(s: &[u8], at: usize, n: usize) -> &[u8]
     ensures { result.now ≡ part s.now at n }

@@ -130,7 +130,8 @@ fn constant_fine(image: &[u8], codes: usize, c: Constant) -> bool
     }
 }
 
-// Do all constants of code k keep it?
+// Do all constants of code k keep it? A function of its own when it runs, too: the loop is quicker so.
+#[inline(never)]
 fn constants_fine(program: &lookups::Program, k: usize) -> bool
     requires { k < 4294967296 }
     ensures { result ≡ all (constant_fine program.now.image.now (length (code_in program.now k).codes)) (code_in program.now k).constants }

@@ -7,7 +7,7 @@ use Rattle.cells.specs.Cells.{null, cells, rest, Writes, set_payload}
 use Rattle.cells.specs.CellsLaws.{writes_two}
 use Rattle.cells.specs.declared.Cell.{Cell}
 use Rattle.machine.specs.Values.{cell}
-use Rattle.machine.specs.Machine.{Frame, Object, Result, used, with_result}
+use Rattle.machine.specs.Machine.{Frame, Object, Result, running, used, with_result}
 use Rattle.machine.specs.Calls.{World, world}
 use Rattle.memory.specs.Layout.{bit, result_shown, state_head, state_cells}
 use Rattle.memory.proofs.Lists.{set_append_add}
@@ -60,13 +60,27 @@ pub record Changes (to : World → World → Type 0) (old new : List ℕ) : Type
   pub rest : rest new ≡ rest old
   pub len : length new ≡ length old
 
--- a writer of the result or of a global has a world that follows: with the parts that it is given
+-- each writer has a world that follows: with the parts that it is given
 module _ (w : World) where
+  pub counts_follow : (F : List Frame) (S : List Object) → Counted (length F) (used S) w (with_counts F S w)
+  counts_follow F S = record { frames = refl; used = refl; world = refl }
+
+  pub turn_follows : (b : Bool) (n : ℕ) → Turned n (bit b) w (with_turn b n w)
+  turn_follows b n = record { wait = refl; world = refl }
+
   pub result_follows : (r : Result) → Resulted (result_shown r).kind (result_shown r).value (result_shown r).second (length (result_shown r).args) w (with_outcome r w)
   result_follows r = record { kind = refl; value = refl; second = refl; args = refl; world = refl }
 
+  -- a result is dropped by kind 0, null, 0 and 0
+  pub none_follows : Resulted 0 null 0 0 w (with_outcome running w)
+  unfolding result_shown
+  none_follows = result_follows running
+
   pub global_follows : (g : ℕ) (v : Cell) → length w.machine.globals ≡ 256 → GlobalSet g v w (with_names (set w.machine.globals g v) w.machine.builtins w)
   global_follows g v n = record { globals = n; world = refl }
+
+  pub builtin_follows : (g : ℕ) (v : Cell) → length w.machine.globals ≡ 256 → BuiltinSet g v w (with_names w.machine.globals (set w.machine.builtins g v) w)
+  builtin_follows g v n = record { globals = n; world = refl }
 
 -- ---- Readers
 abbrev Read : (World → ℕ) → List Cell → ℕ → Type 0

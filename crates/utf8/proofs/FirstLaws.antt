@@ -1,5 +1,5 @@
 -- The first octet decides the row: `char` is `followed` after `lead_of`, for every octet and every text after it.
-use Rattle.std.specs.Prelude.{◌≡◌, refl, Some, List, [], ◌∷◌, Bool, true, false, cond, ℕ, ◌+◌, ◌<◌, ◌≤◌, length, leb}
+use Rattle.std.specs.Prelude.{◌≡◌, refl, Option, Some, None, List, [], ◌∷◌, Bool, true, false, cond, ℕ, ◌+◌, ◌<◌, ◌≤◌, length, leb}
 use Rattle.std.proofs.Common.{sym, ap, ◌∙◌, arith}
 use borrow.Author.Tests.{le-leb, lt-leb, leb-true}
 use Rattle.utf8.specs.Utf8.{Range, both, within, tail, Row, rows, starts, char}
@@ -126,7 +126,58 @@ width_in b (r ∷ rs) g x {d} e = by (width_in (r.first.to + 1) rs g.1 x) (withi
 pub width_most : (x : ℕ) {d : Lead} → Some d ≡ lead_of x → (0 < d.width) × (d.width ≤ 4)
 width_most = width_in 0 rows good
 
--- after 224 the second octet starts at 160: below it the form would be overlong
-pub lead_224 : (x : ℕ) → x ≡ 224 → Some (lead 3 160 191) ≡ lead_of x
-unfolding lead_in
-lead_224 x e = rw e refl
+-- one law for each return of `lead_of`
+module _ (x : ℕ) where
+  pub lead_127 : {r : Option Lead} → x ≤ 127 → r ≡ Some (lead 1 0 0) → r ≡ lead_of x
+  unfolding lead_in
+  lead_127 h e = e ∙ simp (le-leb x 127 h, le-leb 0 x (omega arith))
+
+  module _ (a127 : 127 < x) where
+    pub lead_193 : {r : Option Lead} → x ≤ 193 → r ≡ None → r ≡ lead_of x
+    unfolding lead_in
+    lead_193 h e = e ∙ simp (lt-leb x 127 a127, le-leb x 223 (omega arith), lt-leb 194 x (omega arith), le-leb x 224 (omega arith), lt-leb 224 x (omega arith), le-leb x 236 (omega arith), lt-leb 225 x (omega arith), le-leb x 237 (omega arith), lt-leb 237 x (omega arith), le-leb x 239 (omega arith), lt-leb 238 x (omega arith), le-leb x 240 (omega arith), lt-leb 240 x (omega arith), le-leb x 243 (omega arith), lt-leb 241 x (omega arith), le-leb x 244 (omega arith), lt-leb 244 x (omega arith))
+
+    module _ (a193 : 193 < x) where
+      pub lead_223 : {r : Option Lead} → x ≤ 223 → r ≡ Some (lead 2 128 191) → r ≡ lead_of x
+      unfolding lead_in
+      lead_223 h e = e ∙ simp (lt-leb x 127 a127, le-leb x 223 h, le-leb 194 x (omega arith))
+
+      module _ (a223 : 223 < x) where
+        pub lead_224 : {r : Option Lead} → x ≤ 224 → r ≡ Some (lead 3 160 191) → r ≡ lead_of x
+        unfolding lead_in
+        lead_224 h e = e ∙ simp (lt-leb x 127 a127, lt-leb x 223 a223, le-leb x 224 h, le-leb 224 x (omega arith))
+
+        module _ (a224 : 224 < x) where
+          pub lead_236 : {r : Option Lead} → x ≤ 236 → r ≡ Some (lead 3 128 191) → r ≡ lead_of x
+          unfolding lead_in
+          lead_236 h e = e ∙ simp (lt-leb x 127 a127, lt-leb x 223 a223, lt-leb x 224 a224, le-leb x 236 h, le-leb 225 x (omega arith))
+
+          module _ (a236 : 236 < x) where
+            pub lead_237 : {r : Option Lead} → x ≤ 237 → r ≡ Some (lead 3 128 159) → r ≡ lead_of x
+            unfolding lead_in
+            lead_237 h e = e ∙ simp (lt-leb x 127 a127, lt-leb x 223 a223, lt-leb x 224 a224, lt-leb x 236 a236, le-leb x 237 h, le-leb 237 x (omega arith))
+
+            module _ (a237 : 237 < x) where
+              pub lead_239 : {r : Option Lead} → x ≤ 239 → r ≡ Some (lead 3 128 191) → r ≡ lead_of x
+              unfolding lead_in
+              lead_239 h e = e ∙ simp (lt-leb x 127 a127, lt-leb x 223 a223, lt-leb x 224 a224, lt-leb x 236 a236, lt-leb x 237 a237, le-leb x 239 h, le-leb 238 x (omega arith))
+
+              module _ (a239 : 239 < x) where
+                pub lead_240 : {r : Option Lead} → x ≤ 240 → r ≡ Some (lead 4 144 191) → r ≡ lead_of x
+                unfolding lead_in
+                lead_240 h e = e ∙ simp (lt-leb x 127 a127, lt-leb x 223 a223, lt-leb x 224 a224, lt-leb x 236 a236, lt-leb x 237 a237, lt-leb x 239 a239, le-leb x 240 h, le-leb 240 x (omega arith))
+
+                module _ (a240 : 240 < x) where
+                  pub lead_243 : {r : Option Lead} → x ≤ 243 → r ≡ Some (lead 4 128 191) → r ≡ lead_of x
+                  unfolding lead_in
+                  lead_243 h e = e ∙ simp (lt-leb x 127 a127, lt-leb x 223 a223, lt-leb x 224 a224, lt-leb x 236 a236, lt-leb x 237 a237, lt-leb x 239 a239, lt-leb x 240 a240, le-leb x 243 h, le-leb 241 x (omega arith))
+
+                  module _ (a243 : 243 < x) where
+                    pub lead_244 : {r : Option Lead} → x ≤ 244 → r ≡ Some (lead 4 128 143) → r ≡ lead_of x
+                    unfolding lead_in
+                    lead_244 h e = e ∙ simp (lt-leb x 127 a127, lt-leb x 223 a223, lt-leb x 224 a224, lt-leb x 236 a236, lt-leb x 237 a237, lt-leb x 239 a239, lt-leb x 240 a240, lt-leb x 243 a243, le-leb x 244 h, le-leb 244 x (omega arith))
+
+                    module _ (a244 : 244 < x) where
+                      pub lead_none : {r : Option Lead} → r ≡ None → r ≡ lead_of x
+                      unfolding lead_in
+                      lead_none e = e ∙ simp (lt-leb x 127 a127, lt-leb x 223 a223, lt-leb x 224 a224, lt-leb x 236 a236, lt-leb x 237 a237, lt-leb x 239 a239, lt-leb x 240 a240, lt-leb x 243 a243, lt-leb x 244 a244)

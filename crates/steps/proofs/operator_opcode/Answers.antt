@@ -9,7 +9,7 @@ pub returns-in-Unary : goal.returns-in-Unary
 returns-in-Unary c = number_does (numbered _ (Computes (Unary _)) (ap Computes c.in-Unary.is) c.requires.1) c.unary.ensures
 
 pub returns-in-Binary : goal.returns-in-Binary
-returns-in-Binary c = does_as (numbered _ (Computes (Binary _)) (ap Computes c.in-Binary.is) c.requires.1) c.binary.ensures
+returns-in-Binary c = does_as (numbered _ (Computes (Binary _)) (ap Computes c.in-Binary.is) c.requires.1) c.binary.ensures.lent
 
 pub returns-in-TypeCheck : goal.returns-in-TypeCheck
 returns-in-TypeCheck c = number_does (numbered _ (Computes TypeCheck) (ap Computes c.in-TypeCheck.is) c.requires.1) c.type_check.ensures

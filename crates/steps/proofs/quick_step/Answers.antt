@@ -23,43 +23,43 @@ pub binary-requires : goal.binary-requires
 binary-requires c = ready_fits c.requires.ready
 
 pub returns-in-Add : goal.returns-in-Add
-returns-in-Add c = quick_by c.requires (named_as c.try_from.ensures c.in-Ok.is ∙ ap opcode_number c.in-Add.is) c.binary.ensures c.quick_next-in-Add.ensures
+returns-in-Add c = quick_by c.requires (named_as c.try_from.ensures c.in-Ok.is ∙ ap opcode_number c.in-Add.is) c.binary.ensures.lent c.quick_next-in-Add.ensures
 
 pub binary-requires-in-Sub : goal.binary-requires-in-Sub
 binary-requires-in-Sub c = ready_fits c.requires.ready
 
 pub returns-in-Sub : goal.returns-in-Sub
-returns-in-Sub c = quick_by c.requires (named_as c.try_from.ensures c.in-Ok.is ∙ ap opcode_number c.in-Sub.is) c.binary-in-Sub.ensures c.quick_next-in-Sub.ensures
+returns-in-Sub c = quick_by c.requires (named_as c.try_from.ensures c.in-Ok.is ∙ ap opcode_number c.in-Sub.is) c.binary-in-Sub.ensures.lent c.quick_next-in-Sub.ensures
 
 pub binary-requires-in-Mul : goal.binary-requires-in-Mul
 binary-requires-in-Mul c = ready_fits c.requires.ready
 
 pub returns-in-Mul : goal.returns-in-Mul
-returns-in-Mul c = quick_by c.requires (named_as c.try_from.ensures c.in-Ok.is ∙ ap opcode_number c.in-Mul.is) c.binary-in-Mul.ensures c.quick_next-in-Mul.ensures
+returns-in-Mul c = quick_by c.requires (named_as c.try_from.ensures c.in-Ok.is ∙ ap opcode_number c.in-Mul.is) c.binary-in-Mul.ensures.lent c.quick_next-in-Mul.ensures
 
 pub binary-requires-in-Gt : goal.binary-requires-in-Gt
 binary-requires-in-Gt c = ready_fits c.requires.ready
 
 pub returns-in-Gt : goal.returns-in-Gt
-returns-in-Gt c = quick_by c.requires (named_as c.try_from.ensures c.in-Ok.is ∙ ap opcode_number c.in-Gt.is) c.binary-in-Gt.ensures c.quick_next-in-Gt.ensures
+returns-in-Gt c = quick_by c.requires (named_as c.try_from.ensures c.in-Ok.is ∙ ap opcode_number c.in-Gt.is) c.binary-in-Gt.ensures.lent c.quick_next-in-Gt.ensures
 
 pub binary-requires-in-Ge : goal.binary-requires-in-Ge
 binary-requires-in-Ge c = ready_fits c.requires.ready
 
 pub returns-in-Ge : goal.returns-in-Ge
-returns-in-Ge c = quick_by c.requires (named_as c.try_from.ensures c.in-Ok.is ∙ ap opcode_number c.in-Ge.is) c.binary-in-Ge.ensures c.quick_next-in-Ge.ensures
+returns-in-Ge c = quick_by c.requires (named_as c.try_from.ensures c.in-Ok.is ∙ ap opcode_number c.in-Ge.is) c.binary-in-Ge.ensures.lent c.quick_next-in-Ge.ensures
 
 pub binary-requires-in-Lt : goal.binary-requires-in-Lt
 binary-requires-in-Lt c = ready_fits c.requires.ready
 
 pub returns-in-Lt : goal.returns-in-Lt
-returns-in-Lt c = quick_by c.requires (named_as c.try_from.ensures c.in-Ok.is ∙ ap opcode_number c.in-Lt.is) c.binary-in-Lt.ensures c.quick_next-in-Lt.ensures
+returns-in-Lt c = quick_by c.requires (named_as c.try_from.ensures c.in-Ok.is ∙ ap opcode_number c.in-Lt.is) c.binary-in-Lt.ensures.lent c.quick_next-in-Lt.ensures
 
 pub binary-requires-in-Le : goal.binary-requires-in-Le
 binary-requires-in-Le c = ready_fits c.requires.ready
 
 pub returns-in-Le : goal.returns-in-Le
-returns-in-Le c = quick_by c.requires (named_as c.try_from.ensures c.in-Ok.is ∙ ap opcode_number c.in-Le.is) c.binary-in-Le.ensures c.quick_next-in-Le.ensures
+returns-in-Le c = quick_by c.requires (named_as c.try_from.ensures c.in-Ok.is ∙ ap opcode_number c.in-Le.is) c.binary-in-Le.ensures.lent c.quick_next-in-Le.ensures
 
 pub pop_jump_if-requires : goal.pop_jump_if-requires
 pop_jump_if-requires c = (ready_fits c.requires.ready, omega arith, omega arith)
